@@ -1,0 +1,1 @@
+// Laws that the proofs of the other crates share. No code.

@@ -1,0 +1,1 @@
+// Document 01's twelve examples, stated in specs/Examples.antt and proved in proofs/Twelve.antt.
