@@ -97,9 +97,9 @@ unfoldable pub checkOf : Reading → ℕ → List ℕ → Checked
 checkOf r t v = cond (eqb (typeOf v) t) (fitness r t v) (Unfit (OtherType (typeOf v)))
 
 -- the crate's fields of a type 3 block reach past the packet's end where less than 12 bytes are left: refusal 8
-abbrev pub isCut : Reading → ℕ → List ℕ → Bool
-isCut Standard t v = false
-isCut Crate t v = cond (eqb t receiptType) (ltb (length v) 12) false
+abbrev pub isCut : Reading → ℕ → ℕ → Bool
+isCut Standard t left = false
+isCut Crate t left = cond (eqb t receiptType) (ltb left 12) false
 
 abbrev pub onCheckedFields : Checked → FieldsOr → FieldsOr
 onCheckedFields Fine f = f
@@ -111,7 +111,7 @@ onCheckedTime (Unfit x) t = NoTime x
 
 -- the fields of a block asked as type t: 10, 7, then 8
 unfoldable pub fieldsOf : Reading → ℕ → List ℕ → FieldsOr
-fieldsOf r t v = onCheckedFields (checkOf r t v) (cond (isCut r t v) (NoneOf (NoFields (length v))) (Shown (fieldsAt v)))
+fieldsOf r t v = onCheckedFields (checkOf r t v) (cond (isCut r t (length v)) (NoneOf (NoFields (length v))) (Shown (fieldsAt v)))
 
 -- the time of a block asked as type 4: 10, then 7
 unfoldable pub timeOf : Reading → List ℕ → TimeOr

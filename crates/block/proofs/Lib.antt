@@ -1,0 +1,2 @@
+-- BlockLaws: each way in which a question about one block ends.
+pub mod BlockLaws

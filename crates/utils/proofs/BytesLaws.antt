@@ -1,0 +1,185 @@
+-- The laws of wire's big-endian numbers and words: the one place that unfolds `pairUp`. Assumes nothing.
+--     Bytes, be16-lt, ..      bytes below 256 make a number below its limit
+--     be16-past, ..           past the end it is 0
+--     Same, be16-same, ..     the same bytes elsewhere (in a part, behind a front) are the same number
+--     be16-two, ..            a number's bytes read back
+--     pairUp-*, words32-*     a list of bytes word by word, and its length in words
+use Prim.Native.Nat.{ℕ, zero, suc, _+_, _*_, _/_, _%_, _^_, _≤_, _<_}
+use mathlib.Core.Path.{_≡_, refl, sym, ap, ap₂, _∙_}
+use mathlib.Core.List.{List, [], _∷_, _++_}
+use native.Mathlib.Nat.{add-zero, mod-eq-of-lt}
+use native.Mathlib.Numerals.{add-one}
+use lib.Dec.{lit<}
+use lib.Arith.{mod-mul}
+use native.Mathlib.Omega.{arith}
+use lib.ListN.{length, getD, take, drop, length-drop, List·getD-eq-default}
+use lib.Seq.{drop-cons, getD-take, getD-drop, getD-append-add}
+use Rattle.wire.specs.Bytes.{byteAt, be16, be32, be64, pairUp, words16, words32, two, four, eight}
+
+-- ---- numbers
+
+-- bytes are below 256
+abbrev pub Bytes : List ℕ → Type 0
+Bytes s = (i : ℕ) → getD s i 0 < 256
+
+pub be16-lt : (s : List ℕ) (at : ℕ) → Bytes s → be16 s at < 65536
+be16-lt s at h = omega (arith, h at, h (at + 1))
+
+pub be32-lt : (s : List ℕ) (at : ℕ) → Bytes s → be32 s at < 4294967296
+be32-lt s at h = omega (arith, be16-lt s at h, be16-lt s (at + 2) h)
+
+pub be64-lt : (s : List ℕ) (at : ℕ) → Bytes s → be64 s at < 2 ^ 64
+be64-lt s at h = omega (arith, be32-lt s at h, be32-lt s (at + 4) h)
+
+-- past the end it is 0
+pub byteAt-past : (s : List ℕ) (at : ℕ) → length s ≤ at → byteAt s at ≡ 0
+byteAt-past s at h = List·getD-eq-default s 0 h
+
+pub be16-past : (s : List ℕ) (at : ℕ) → length s ≤ at → be16 s at ≡ 0
+be16-past s at h = omega (arith, byteAt-past s at h, byteAt-past s (at + 1) (omega arith))
+
+pub be32-past : (s : List ℕ) (at : ℕ) → length s ≤ at → be32 s at ≡ 0
+be32-past s at h = omega (arith, be16-past s at h, be16-past s (at + 2) (omega arith))
+
+pub be64-past : (s : List ℕ) (at : ℕ) → length s ≤ at → be64 s at ≡ 0
+be64-past s at h = omega (arith, be32-past s at h, be32-past s (at + 4) (omega arith))
+
+-- ---- the same bytes elsewhere
+
+-- the n bytes of s from i on are those of t from j on
+abbrev pub Same : ℕ → List ℕ → ℕ → List ℕ → ℕ → Type 0
+Same n s i t j = (q : ℕ) → q < n → byteAt s (i + q) ≡ byteAt t (j + q)
+
+module _ (s : List ℕ) (i : ℕ) (t : List ℕ) (j : ℕ) where
+  -- fewer bytes, and those behind the first m
+  pub same-less : (m n : ℕ) → m ≤ n → Same n s i t j → Same m s i t j
+  same-less m n l h q k = h q (omega arith)
+
+  pub same-from : (m n : ℕ) → Same (m + n) s i t j → Same n s (i + m) t (j + m)
+  same-from m n h q k =
+      let a : i + m + q ≡ i + (m + q) = omega arith in
+      let b : j + m + q ≡ j + (m + q) = omega arith in
+      rw (a, b) (h (m + q) (omega arith))
+
+-- the same bytes are the same number
+pub be16-same : (s : List ℕ) (i : ℕ) (t : List ℕ) (j : ℕ) → Same 2 s i t j → be16 s i ≡ be16 t j
+be16-same s i t j h = let e : byteAt s i ≡ byteAt t j = simp add-zero at (h 0 (omega arith)) in rw (e, h 1 (omega arith))
+
+pub be32-same : (s : List ℕ) (i : ℕ) (t : List ℕ) (j : ℕ) → Same 4 s i t j → be32 s i ≡ be32 t j
+be32-same s i t j h =
+    ap₂ (λ (a b : ℕ). a * 65536 + b) (be16-same s i t j (same-less s i t j 2 4 (omega arith) h))
+    (be16-same s (i + 2) t (j + 2) (same-from s i t j 2 2 h))
+
+pub be64-same : (s : List ℕ) (i : ℕ) (t : List ℕ) (j : ℕ) → Same 8 s i t j → be64 s i ≡ be64 t j
+be64-same s i t j h =
+    ap₂ (λ (a b : ℕ). a * 4294967296 + b) (be32-same s i t j (same-less s i t j 4 8 (omega arith) h))
+    (be32-same s (i + 4) t (j + 4) (same-from s i t j 4 4 h))
+
+-- in what is left from k on
+pub same-drop : (m k : ℕ) (s : List ℕ) (i : ℕ) → Same m (drop k s) i s (k + i)
+same-drop m k s i q h = let e : k + i + q ≡ k + (i + q) = omega arith in rw e (getD-drop k s (i + q) 0)
+
+-- in a part of n bytes from k on
+pub same-part : (m k n : ℕ) (s : List ℕ) (i : ℕ) → i + m ≤ n → Same m (take n (drop k s)) i s (k + i)
+same-part m k n s i l q h = getD-take n (drop k s) (i + q) 0 (omega arith) ∙ same-drop m k s i q h
+
+-- behind a front
+pub same-behind : (m : ℕ) (a s : List ℕ) (i : ℕ) → Same m (a ++ s) (length a + i) s i
+same-behind m a s i q h = let e : length a + i + q ≡ length a + (i + q) = omega arith in rw e (getD-append-add a s (i + q) 0)
+
+-- the number in a part is the number in the whole
+module _ (k n : ℕ) (s : List ℕ) (i : ℕ) where
+  pub be16-part : i + 2 ≤ n → be16 (take n (drop k s)) i ≡ be16 s (k + i)
+  be16-part h = be16-same (take n (drop k s)) i s (k + i) (same-part 2 k n s i h)
+
+  pub be32-part : i + 4 ≤ n → be32 (take n (drop k s)) i ≡ be32 s (k + i)
+  be32-part h = be32-same (take n (drop k s)) i s (k + i) (same-part 4 k n s i h)
+
+  pub be64-part : i + 8 ≤ n → be64 (take n (drop k s)) i ≡ be64 s (k + i)
+  be64-part h = be64-same (take n (drop k s)) i s (k + i) (same-part 8 k n s i h)
+
+-- ---- a number's bytes read back
+
+two-back : (x : ℕ) (s : List ℕ) → be16 (two x ++ s) 0 ≡ x % 65536
+two-back x s = sym (mod-mul x {m = 256} {c = 256} (lit< tt) (lit< tt))
+
+four-back : (x : ℕ) (s : List ℕ) → be32 (four x ++ s) 0 ≡ x % 4294967296
+four-back x s =
+    ap₂ (λ (a b : ℕ). a * 65536 + b) (two-back (x / 65536) (two x ++ s)) (two-back x s) ∙ sym (mod-mul x {m = 65536} {c = 65536} (lit< tt) (lit< tt))
+
+eight-back : (x : ℕ) (s : List ℕ) → be64 (eight x ++ s) 0 ≡ x % 2 ^ 64
+eight-back x s =
+    ap₂ (λ (a b : ℕ). a * 4294967296 + b) (four-back (x / 4294967296) (four x ++ s)) (four-back x s)
+    ∙ sym (mod-mul x {m = 4294967296} {c = 4294967296} (lit< tt) (lit< tt))
+
+pub be16-two : (x : ℕ) (s : List ℕ) → x < 65536 → be16 (two x ++ s) 0 ≡ x
+be16-two x s h = two-back x s ∙ mod-eq-of-lt h
+
+pub be32-four : (x : ℕ) (s : List ℕ) → x < 4294967296 → be32 (four x ++ s) 0 ≡ x
+be32-four x s h = four-back x s ∙ mod-eq-of-lt h
+
+pub be64-eight : (x : ℕ) (s : List ℕ) → x < 2 ^ 64 → be64 (eight x ++ s) 0 ≡ x
+be64-eight x s h = eight-back x s ∙ mod-eq-of-lt h
+
+-- ---- words
+
+-- from an index with two whole elements behind it on
+pub pairUp-cons : (b : ℕ) (s : List ℕ) (at : ℕ) → at + 2 ≤ length s
+    → pairUp b (drop at s) ≡ (getD s at 0 * b + getD s (at + 1) 0) ∷ pairUp b (drop (at + 2) s)
+unfolding pairUp
+pairUp-cons b s at h =
+    let i : at < length s = omega arith in
+    let j : suc at < length s = omega arith in
+    let e : at + 2 ≡ suc (suc at) = omega arith in
+    rw (e, add-one, drop-cons s at 0 i, drop-cons s (suc at) 0 j)
+
+pairUp-short : (b : ℕ) (s : List ℕ) → length s ≤ 1 → pairUp b s ≡ []
+unfolding pairUp
+pairUp-short b [] h = refl
+pairUp-short b (x ∷ []) h = refl
+pairUp-short b (x ∷ y ∷ s) h = absurd (omega arith)
+
+-- fewer than two are left
+pub pairUp-end : (b : ℕ) (s : List ℕ) (at : ℕ) → length s ≤ at + 1 → pairUp b (drop at s) ≡ []
+pairUp-end b s at h = pairUp-short b (drop at s) (omega (arith, length-drop at s))
+
+pub length-pairUp : (b : ℕ) (s : List ℕ) → length (pairUp b s) ≡ length s / 2
+unfolding pairUp
+length-pairUp b [] = refl
+length-pairUp b (x ∷ []) = refl
+length-pairUp b (x ∷ y ∷ s) = let e = length-pairUp b s in omega arith
+
+pub getD-pairUp : (b : ℕ) (s : List ℕ) (i : ℕ) → i < length s / 2 → getD (pairUp b s) i 0 ≡ getD s (2 * i) 0 * b + getD s (2 * i + 1) 0
+unfolding pairUp
+getD-pairUp b [] i h = absurd (omega arith)
+getD-pairUp b (x ∷ []) i h = absurd (omega arith)
+getD-pairUp b (x ∷ y ∷ s) zero h = refl
+getD-pairUp b (x ∷ y ∷ s) (suc i) h =
+    let e : 2 * suc i ≡ suc (suc (2 * i)) = omega arith in
+    let k : suc (suc (2 * i)) + 1 ≡ suc (suc (2 * i + 1)) = omega arith in
+    rw (e, k) (getD-pairUp b s i (omega arith))
+
+-- from an index with four whole bytes behind it on
+pub words32-cons : (s : List ℕ) (at : ℕ) → at + 4 ≤ length s → words32 (drop at s) ≡ be32 s at ∷ words32 (drop (at + 4) s)
+unfolding pairUp
+words32-cons s at h =
+    let e : at + 4 ≡ at + 2 + 2 = omega arith in
+    let i : at + 2 ≤ length s = omega arith in
+    let j : at + 2 + 2 ≤ length s = omega arith in
+    rw (e, pairUp-cons 256 s at i, pairUp-cons 256 s (at + 2) j)
+
+-- fewer than four are left
+pub words32-end : (s : List ℕ) (at : ℕ) → length s ≤ at + 3 → words32 (drop at s) ≡ []
+words32-end s at h = pairUp-short 65536 (words16 (drop at s)) (omega (arith, length-pairUp 256 (drop at s), length-drop at s))
+
+pub length-words32 : (s : List ℕ) → length (words32 s) ≡ length s / 4
+length-words32 s = omega (arith, length-pairUp 65536 (words16 s), length-pairUp 256 s)
+
+-- a number's bytes in front make a word
+pub words16-two : (x : ℕ) (s : List ℕ) → x < 65536 → words16 (two x ++ s) ≡ x ∷ words16 s
+unfolding pairUp
+words16-two x s h = ap (λ (w : ℕ). w ∷ words16 s) (be16-two x s h)
+
+pub words32-four : (x : ℕ) (s : List ℕ) → x < 4294967296 → words32 (four x ++ s) ≡ x ∷ words32 s
+unfolding pairUp
+words32-four x s h = ap (λ (w : ℕ). w ∷ words32 s) (be32-four x s h)

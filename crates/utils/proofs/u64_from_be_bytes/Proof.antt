@@ -1,0 +1,47 @@
+-- `utils::u64_from_be_bytes` meets its contract: inside, half by half at the end, past the end. Assumes nothing.
+use mathlib.Core.Path.{sym}
+use borrow.Author.Needs.{needs}
+use Rattle.utils.proofs.BytesLaws.{be64-past}
+use Rattle.utils.proofs.u64_from_be_bytes.Statement.{statement}
+use Rattle.utils.proofs.u64_from_be_bytes.Tie as tie
+
+sub-if2 : tie.Need-sub-if2
+sub-if2 c = search needs
+
+load64-requires : tie.Need-load64-requires
+load64-requires c κs = search needs
+
+u32-from-be-bytes-requires : tie.Need-u32-from-be-bytes-requires
+u32-from-be-bytes-requires c κs = search needs
+
+add-u32-from-be-bytes : tie.Need-add-u32-from-be-bytes
+add-u32-from-be-bytes c = search needs
+
+u32-from-be-bytes-requires-2 : tie.Need-u32-from-be-bytes-requires-2
+u32-from-be-bytes-requires-2 c κs = search needs
+
+join32-requires : tie.Need-join32-requires
+join32-requires c κs = search needs
+
+returns : tie.Need-returns
+returns c = search needs
+
+returns-2 : tie.Need-returns-2
+returns-2 c = search needs
+
+returns-3 : tie.Need-returns-3
+returns-3 c = sym (be64-past (c .before .before .args .s .now) _ (c .if1 .left))
+
+pub u64-from-be-bytes-spec : {M : Type 1} → statement M
+u64-from-be-bytes-spec =
+    tie.close
+    (tie.spec
+    sub-if2
+    load64-requires
+    u32-from-be-bytes-requires
+    add-u32-from-be-bytes
+    u32-from-be-bytes-requires-2
+    join32-requires
+    returns
+    returns-2
+    returns-3)

@@ -1,0 +1,63 @@
+"""Short ways to make records and packets for the model's checks, and seeded ones."""
+from jobs import job_list, layout, write
+from readings import CRATE, STANDARD, Range
+
+
+def header(padding=0):
+    return "header", 1, padding
+
+
+def rle(words_, begin, end, thinning=0, kind=1):
+    return kind, Range(7, begin, end, thinning), words_
+
+
+def times(own, begin, end, thinning=0):
+    return 3, Range(7, begin, end, thinning), own
+
+
+def dlrr(n):
+    return 5, [(100 + i, 200 + i, 300 + i) for i in range(n)]
+
+
+CLOCK = (4, 0x0102030405060708)
+
+
+def plain(*blocks, padding=0):
+    return layout([header(padding), *blocks], False)
+
+
+def careful(*blocks, padding=0, room=None):
+    return write(job_list([header(padding), *blocks]), True, room)
+
+
+def h(text):
+    return bytes.fromhex(text)
+
+
+def both(ask, packet, *rest):
+    return ask(packet, STANDARD, *rest), ask(packet, CRATE, *rest)
+
+
+# Seeded choices
+
+def any_range(draw):
+    edges = [0, 1, 5, 32768, 65530, 65535, draw.randrange(65536)]
+    begin, thinning = draw.choice(edges), draw.choice([0, 0, 1, 3, 12, 14, 15])
+    end = draw.choice([begin, draw.choice(edges), (begin + draw.randrange(60)) % 65536])
+    return Range(7, begin, end, thinning)
+
+
+def any_word(draw):
+    return draw.choice([0, 3, 16384, 16385, 32768, 49152, 65535, 32767 if draw.random() < .1 else 1,
+                        0x4000 | draw.randrange(30), 0x8000 | draw.randrange(32768)])
+
+
+def any_block(draw):
+    kind = draw.randrange(1, 6)
+    if kind == 4:
+        return 4, draw.getrandbits(64)
+    if kind == 5:
+        return dlrr(draw.randrange(7))
+    if kind == 3:
+        return 3, any_range(draw), [draw.getrandbits(32) for _ in range(draw.randrange(6))]
+    return kind, any_range(draw), [any_word(draw) for _ in range(draw.randrange(6))]

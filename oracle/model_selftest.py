@@ -1,0 +1,307 @@
+"""Checks of the model: document 01's twelve examples and the facts of the open points, with bytes.
+
+Every check is `expect(name, found, wanted)`; one that differs is told and makes the run fail.
+"""
+import random
+
+from dump import dump
+from jobs import job_list, layout, misled, records, write
+from lists import (covers, crate_count, crate_numbers, cursor, entries, first_failure, is_inside,
+                   make_word, moved, numbers, offset_sequence, pairs, values, words)
+from model_cases import (CLOCK, any_block, any_range, any_word, both, careful, dlrr, h, header, plain,
+                         rle, times)
+from readings import CRATE, STANDARD, Range, fields, is_refused, time, view, whole
+
+FAILED = []
+CHECKS = [0]
+
+
+def expect(name, found, wanted):
+    CHECKS[0] += 1
+    if found != wanted:
+        FAILED.append(name)
+        print(f"FAILED {name}: found {str(found)[:200]}, wanted {str(wanted)[:200]}")
+
+
+def run():
+    for test in (examples, header_facts, block_facts, list_facts, cursor_facts, word_facts,
+                 job_facts, misled_facts, misled_rules, dump_facts):
+        test()
+    print(f"{CHECKS[0]} checks, {len(FAILED)} failed")
+    return 1 if FAILED else 0
+
+
+SAMPLE = h("80CF0005 00000001 01000003 00000007 000A000E 40024002")
+SAMPLE_DUMP = """reading standard
+block 0 type 1 length 16
+ssrc 7 begin 10 end 14 thinning 0
+numbers 10 11 12 13
+reading crate
+block 0 type 1 length 16
+ssrc 7 begin 10 end 14 thinning 0
+numbers 10 11
+"""
+
+
+def examples():
+    for word, covered in (0, 0), (3, 3), (32768, 15):
+        expect("1 covers", covers(word), covered)
+        expect("1 lists nothing", both(numbers, plain(rle([word, 0], 0, 0)), 0, 1), ([], []))
+    expect("2", [i for i, v in enumerate(values(49152)) if v], [0])
+    expect("2", [i for i, v in enumerate(values(32769)) if v], [14])
+    four = [65534, 65535, 0, 1]
+    expect("3", both(numbers, plain(rle([16388, 0], 65534, 2)), 0, 1), (four, four))
+    expect("4", plain(rle([16386, 16386], 10, 14)), SAMPLE)
+    expect("4 dump", dump(SAMPLE), SAMPLE_DUMP)
+    expect("5", both(numbers, plain(rle([16386, 16387, 16385, 0], 10, 12)), 0, 1),
+           ([10, 11], [10, 11, 12, 13, 14, 15]))
+    expect("6", both(numbers, plain(rle([16387, 0], 0, 0, 15)), 0, 1), ([0, 32768], [0, 32768, 0]))
+    two = [(5, 1001), (6, 1002)]
+    expect("7", both(pairs, plain(times([1001, 1002], 5, 9), CLOCK), 0),
+           (two, two + [(7, 67108866), (8, CLOCK[1] >> 32)]))
+    expect("8", both(pairs, plain(times([1001, 1002], 5, 7), CLOCK), 0), (two, two))
+    expect("9", both(entries, plain(CLOCK, dlrr(2)), 1), (dlrr(2)[1], ("refused", 7, 40, 28)))
+    expect("10", len(entries(plain(dlrr(1), CLOCK), CRATE, 0)), 2)
+    expect("10", careful(dlrr(1), CLOCK), ("refused", 15, 0, 0))
+    expect("10", careful(CLOCK, dlrr(1)), plain(CLOCK, dlrr(1)))
+    expect("11", view(careful(rle([16386, 16386], 10, 14)), STANDARD, 0)[1], 20)
+    expect("12", both(whole, h("80cf0001 00000001")), ((0, 1), ("refused", 1, 12, 8)))
+
+
+def header_facts():
+    expect("row 5", both(whole, h("a0cf0003 00000001 00000001 00000001")),
+           (("refused", 5, 1, 0),) * 2)
+    expect("row 5", both(whole, h("a0cf0002 00000001 00000001")), (("refused", 5, 1, 0),) * 2)
+    for n in range(256):
+        standard = (0, 1) if n == 4 else ("refused", 5, n, 0)
+        crate = ("refused", 6, 20, 4) if n == 4 else standard
+        expect("row 5, 12 bytes", both(whole, h("a0cf0002 00000001 000000") + bytes([n])),
+               (standard, crate))
+    expect("row 6", both(whole, h("a0cf0003 00000001 00000001 00000004")),
+           (("refused", 6, 8, 4), (1, 1)))
+    expect("6 hides earlier blocks", both(
+        time, h("80cf0005 00000001 04000002 01020304 05060708 00000001"), 0),
+        (("refused", 6, 8, 4),) * 2)
+    expect("65,534 blocks", both(whole, h("80cfffff 00000001") + bytes(262136)), ((65534, 1),) * 2)
+    for n in range(8, 12):
+        standard = (0, 1) if n == 8 else ("refused", 4, 8, n)
+        expect("8 to 11", both(whole, h("80cf0001 00000001 000000")[:n]),
+               (standard, ("refused", 1, 12, n)))
+    expect("P in 8 bytes", both(whole, h("a0cf0001 00000001")),
+           (("refused", 5, 1, 0), ("refused", 1, 12, 8)))
+    expect("9", both(fields, SAMPLE, 1, 1), (("refused", 9, 1, 0),) * 2)
+    expect("count in 9", both(fields, plain(CLOCK, padding=4), 1, 1),
+           (("refused", 9, 1, 0), ("refused", 6, 20, 4)))
+    expect("loss is not duplicate", both(fields, SAMPLE, 0, 2), (("refused", 10, 1, 0),) * 2)
+    for n in range(4, 253, 4):
+        expect("padded: crate 6", both(whole, plain(CLOCK, padding=n)),
+               ((1, 1), ("refused", 6, 4 * (n + 1), 4)))
+
+
+def block_facts():
+    for tail, left in ("03000000", 4), ("03000001 00000000", 8):
+        packet = h(f"80cf000{4 + left // 4} 00000001 04000002 00000000 00000000 {tail}")
+        expect("row 8", fields(packet, CRATE, 1, 3), ("refused", 8, 12, left))
+        expect("row 8: list", pairs(packet, CRATE, 1), [])
+        expect("row 8: standard", fields(packet, STANDARD, 1, 3), ("refused", 7, 12, left))
+    short = h("80cf0005 00000001 03020000 00000002 00050009 000003e9")
+    expect("crate type 3, L 4, left 16", (fields(short, CRATE, 0, 3), pairs(short, CRATE, 0)),
+           (Range(2, 5, 9, 2), [(5, 1001)]))
+    expect("type 5: left, not L", entries(
+        h("80cf0006 00000001 05000000 04000002 00000000 00000000 00000000"), CRATE, 0),
+        ("refused", 7, 8, 20))
+    for length, fits in (8, 16), (12, 16), (20, 28), (24, 28):
+        words_ = length // 4
+        packet = h(f"80cf000{1 + words_} 00000001 0500000{words_ - 1}") + bytes(length - 4)
+        expect("type 5: next fitting", entries(packet, STANDARD, 0), ("refused", 7, fits, length))
+    for length in range(4, 53, 4):
+        for kind, fit in (1, range(12, 53, 4)), (3, range(12, 53, 4)), (4, [12]), (5, [4, 16, 28, 40, 52]):
+            packet = h(f"80cf00{1 + length // 4:02x} 00000001 {kind:02x}0000{length // 4 - 1:02x}")
+            ask = {1: (numbers, 1), 3: (pairs,), 4: (time,), 5: (entries,)}[kind]
+            answer = ask[0](packet + bytes(length - 4), STANDARD, 0, *ask[1:])
+            least = min([n for n in fit if n >= length], default=12)
+            expect(f"standard type {kind}, L {length}", answer if is_refused(answer) else None,
+                   None if length in fit else ("refused", 7, least, length))
+    expect("L 12", both(numbers, plain(rle([], 1, 5)), 0, 1), ([], []))
+    high = SAMPLE[:9] + b"\xf0" + SAMPLE[10:]
+    expect("high specific bits", (fields(high, STANDARD, 0, 1), view(high, CRATE, 0)),
+           (fields(SAMPLE, STANDARD, 0, 1), (8, 16, h("01f00003"))))
+
+
+def list_facts():
+    r = Range(7, 0, 65535, 15)
+    expect("2,147,172,363 numbers", crate_count(r, [32767] * 131061), 2147172363)
+    packet = plain(rle([32767] * 131062, 0, 65535, 15))
+    expect("the same from a packet", numbers(packet, CRATE, 0, 1, 16384),
+           ("refused", 11, 2147172363, 16384))
+    expect("the same in the standard", numbers(packet, STANDARD, 0, 1), [0, 32768])
+    expect("words", (len(words(packet, STANDARD, 0, 1)), len(words(packet, CRATE, 0, 1))),
+           (131062, 131061))
+    edges = [0, 1, 5, 32767, 32768, 40000, 65530, 65535]
+    for thinning in range(16):
+        for start in edges:
+            for end in edges:
+                r = Range(7, 0, end, thinning)
+                brute = next((q for q in range(16384) if offset_sequence(q, start, r) is None), None)
+                form = first_failure(start, r)
+                expect("closed form of a run", form if form is None or form < 16384 else None, brute)
+    draw = random.Random(1)
+    for _ in range(3000):
+        r = any_range(draw)
+        own = [any_word(draw) for _ in range(draw.randrange(6))]
+        expect("count is the list's length", crate_count(r, own), len(list(crate_numbers(r, own))))
+
+
+def cursor_facts():
+    packet = plain(rle([16386, 0, 32769, 3], 10, 14))
+    all_of = cursor(packet, 0, 1, 0, 0, 0, 100, 100)
+    expect("all steps", all_of, (2 + 1 + 15 + 3, 4, 0, 20, numbers(packet, STANDARD, 0, 1)))
+    for budget in range(25):
+        first = cursor(packet, 0, 1, 0, 0, 0, budget, budget)
+        rest = cursor(packet, 0, 1, *first[1:4], 100, 100)
+        expect("in two calls", (first[0] + rest[0], *rest[1:4], first[4] + rest[4]), all_of)
+    draw = random.Random(3)
+    for _ in range(300):
+        block = rle([any_word(draw) for _ in range(draw.randrange(7))], *any_range(draw)[1:])
+        some = plain(block)
+        steps = sum(max(1, covers(w)) for w in words(some, STANDARD, 0, 1))
+        found = cursor(some, 0, 1, 0, 0, 0, steps + 1, steps + 1)
+        expect("all steps list all", (found[0], found[4]), (steps, numbers(some, STANDARD, 0, 1)))
+    for place in (4, 1, 0), (5, 0, 0), (1, 1, 0), (0, 2, 0), (2, 15, 0), (0, 0, 65537):
+        expect("16", cursor(packet, 0, 1, *place, 0, 0), ("refused", 16, 0, 0))
+    expect("16 before 11", cursor(packet, 0, 1, 5, 0, 0, 9, 0), ("refused", 16, 0, 0))
+    expect("room is the budget", cursor(packet, 0, 1, 4, 0, 0, 9, 8), ("refused", 11, 9, 8))
+    expect("end cursor", cursor(packet, 0, 1, 4, 0, 65536, 9, 9), (0, 4, 0, 65536, []))
+    expect("budget 0", cursor(packet, 0, 1, 2, 7, 12345, 0, 0), (0, 2, 7, 12345, []))
+    expect("position stops", cursor(packet, 0, 1, 2, 0, 65535, 4, 4), (4, 2, 4, 65536, []))
+
+
+def word_facts():
+    expect("null", make_word(0, 99999, 2), b"\0\0")
+    expect("runs", [make_word(k, 16383, 2) for k in (1, 2)], [h("3fff"), h("7fff")])
+    expect("13", [make_word(k, v, 0) for k, v in ((1, 16384), (2, 16384), (3, 32768))],
+           [("refused", 13, v, 0) for v in (16384, 16384, 32768)])
+    expect("11", make_word(3, 32767, 1), ("refused", 11, 2, 1))
+    expect("vector", make_word(3, 32767, 2), h("ffff"))
+    expect("run of ones, length 0", (make_word(2, 0, 2), make_word(1, 0, 2)), (h("4000"), h("0000")))
+
+
+def job_facts():
+    good = job_list([header(), CLOCK])
+    some = [header(8), CLOCK, rle([1, 2, 3], 4, 5, 6, 2), times([7], 8, 9), dlrr(2)]
+    expect("records come back", records(job_list(some)), some)
+    expect("empty list", write(b"", False), ("refused", 12, 0, 0))
+    for n in range(1, len(job_list([header()]))):
+        expect("cut header", write(good[:n], False), ("refused", 12, 0, 0))
+    for n in range(1, len(good) - 12):
+        expect("cut record", write(good[:12 + n], False), ("refused", 12, 1, 0))
+    expect("first of another kind", write(job_list([CLOCK]), False), ("refused", 12, 0, 0))
+    expect("second header", write(job_list([header(), CLOCK, header()]), False),
+           ("refused", 12, 2, 0))
+    expect("body near 2^32", write(job_list([header()]) + h("ffffffff 0400") + bytes(8), False),
+           ("refused", 12, 1, 0))
+    fits = {1: range(10, 60, 2), 2: range(10, 60, 2), 3: range(10, 60, 4), 4: [8], 5: range(0, 60, 12)}
+    for kind in list(range(8)) + [256, 65535]:
+        for size in range(60):
+            record = size.to_bytes(4, "little") + kind.to_bytes(2, "little") + bytes(size)
+            expect(f"kind {kind}, {size} bytes", is_refused(write(job_list([header()]) + record, False)),
+                   size not in fits.get(kind, []))
+            expect(f"first, kind {kind}, {size} bytes", is_refused(write(record, False)),
+                   (kind, size) != (0, 6))
+    for padding, wanted in (0, None), (252, None), (256, 12), (2, 12), (65535, 12):
+        answer = write(job_list([header(padding)]), False)
+        expect("padding", answer[1] if is_refused(answer) else None, wanted)
+    for thinning in 15, 16:
+        answer = write(job_list([header(), rle([], 0, 0, thinning)]), False)
+        expect("thinning", is_refused(answer), thinning == 16)
+    expect("12 before 14", write(job_list([header()] + [CLOCK] * 40) + b"\0", False),
+           ("refused", 12, 41, 0))
+    expect("31 blocks", whole(write(job_list([header()] + [CLOCK] * 31), False), STANDARD), (31, 1))
+    expect("32 blocks", write(job_list([header()] + [CLOCK] * 32), False), ("refused", 14, 32, 31))
+    most = rle([3] * 131062, 0, 1)
+    expect("131,062 words, plain", len(plain(most)), 262144)
+    expect("131,062 words, careful", careful(most), ("refused", 14, 262148, 262144))
+    expect("11", careful(CLOCK, room=19), ("refused", 11, 20, 19))
+    expect("15 before 11", careful(dlrr(1), CLOCK, room=0), ("refused", 15, 0, 0))
+    expect("padded is never 15", careful(dlrr(1), CLOCK, padding=4), plain(dlrr(1), CLOCK, padding=4))
+    expect("kind 4 is one number", plain(CLOCK)[12:], h("01020304 05060708"))
+    for word in 3, 16384, 32768:
+        expect("two zero words", len(careful(rle([word, word], 0, 9))), 8 + 12 + 8)
+    for own, size in ([], 12), ([16386], 16), ([16386, 0], 16), ([0, 1], 20), ([0, 0], 16), ([1, 2, 3], 20):
+        expect("careful length", view(careful(rle(own, 0, 9)), STANDARD, 0)[1], size)
+        expect("careful adds zeros only", careful(rle(own, 0, 9))[20:],
+               layout([header(), rle(own + [0] * 4, 0, 9)], False)[20:8 + size])
+    expect("a packet's bytes", plain(rle([49152, 5, 1], 1, 2, 3, 2), padding=4),
+           h("a0cf0007 00000001 02030004 00000007 00010002 c0000005 00010000 00000004"))
+
+
+def misled_facts():
+    def misleads(*blocks):
+        return misled([header(), *blocks])
+
+    for own in [16386, 16385], [2, 16385]:
+        expect("15", misleads(rle(own, 10, 12)), [0])
+    for own in [16387], [16387, 16385]:
+        expect("not 15", misleads(rle(own, 10, 12)), [])
+    expect("15", misleads(rle([49408], 65530, 65531)), [0])
+    for end in 0, 40000:
+        expect("15", misleads(rle([16387], 0, end, 15)), [0])
+    expect("15", misleads(rle([32767] * 4 + [16388, 16385], 5, 5)), [0])
+    expect("not 15", misleads(rle([32767] * 4 + [16389], 5, 5)), [])
+    for n in range(11):
+        behind = [misleads(dlrr(n), block) for block in (CLOCK, dlrr(0))]
+        expect("DLRR and 12 bytes", behind, [[0] if n % 4 == 1 else [], []])
+    expect("index", misleads(CLOCK, CLOCK, dlrr(1), CLOCK), [2])
+
+
+def misled_rules():
+    """The open points' short form of 15 against the literal definition, on seeded lists."""
+    draw = random.Random(2)
+    seen = set()
+    for _ in range(4000):
+        blocks = [any_block(draw) for _ in range(draw.randrange(1, 4))]
+        found = [header(), *blocks]
+        sizes = [len(layout([header(), b], True)) - 8 for b in blocks]
+        short = [i for i, b in enumerate(blocks) if rule_misleads(b, sum(sizes[i + 1:]))]
+        expect(f"short form of 15, {found}", misled(found), short)
+        seen |= {(b[0], i in short) for i, b in enumerate(blocks)}
+        for b in blocks:
+            if b[0] in (1, 2):
+                lists = both(numbers, layout([header(), b], True), 0, b[0])
+                expect("standard is a prefix of crate", lists[1][:len(lists[0])], lists[0])
+    expect("kinds met", seen, {(k, m) for k in (1, 2, 3, 4, 5) for m in (True, False)} - {(4, True)})
+
+
+def rule_misleads(block, behind):
+    kind = block[0]
+    if kind == 4:
+        return False
+    if kind == 5:
+        return len(block[1]) % 4 == 1 and behind >= 12
+    _, r, items = block
+    if kind == 3:
+        own, most = len(items), len(items) + behind // 4
+        size = (r.end - r.begin) % 65536 or 65536
+        last = -(-size >> r.thinning)
+        return not (most == own <= last or
+                    own >= last and offset_sequence(last, r.begin, r) is None)
+    p, start = 0, r.begin
+    for word in items:
+        for q, value in enumerate(values(word)):
+            if value and not is_inside(p + q, r):
+                return offset_sequence(q, start, r) is not None
+        p, start = p + covers(word), moved(start, word, r)
+    return False
+
+
+def dump_facts():
+    expect("no block", dump(h("80cf0001 00000001")), "reading standard\nreading crate\nrefused 1\n")
+    expect("longest", dump(h("80cf3fff 00000001") + bytes(65528)).count("\n"), 2 * (65528 // 4 + 1))
+    expect("too long", dump(bytes(65537)), "refused 11\n")
+    expect("refused 8", dump(h("80cf0002 00000001 03000000")),
+           "reading standard\nblock 0 type 3 length 4\nrefused 7\n"
+           "reading crate\nblock 0 type 3 length 4\nrefused 8\npairs\n")
+    long = plain(rle([32767, 32767, 0, 0], 0, 0), CLOCK)
+    line = "block 0 type 1 length 20\nssrc 7 begin 0 end 0 thinning 0\nrefused 11\n"
+    clock = f"block 1 type 4 length 12\ntime {CLOCK[1]}\n"
+    expect("long list", dump(long), f"reading standard\n{line}{clock}reading crate\n{line}{clock}")
