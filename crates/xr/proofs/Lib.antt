@@ -2,3 +2,4 @@
 pub mod HeaderLaws
 pub mod WalkLaws
 pub mod WalkTurn
+pub mod Unique
