@@ -1,13 +1,12 @@
 -- The laws of the crate's doublings and of its test of a number (old_crate's Sequence): the one place that unfolds them. Assumes nothing.
 use Prim.Native.Nat.{ℕ, _+_, _*_, _-_, _%_, _^_, _≤_, _<_}
 use mathlib.Core.Path.{_≡_, ap, _∙_}
-use mathlib.Core.Bool.{Bool, true, false}
+use mathlib.Core.Bool.{true, false}
 use native.Mathlib.Nat.{add-zero, mul-assoc}
 use native.Mathlib.Omega.{arith}
 use lib.Dec.{ltb}
 use lib.Pow.{pow-add, pow-pos, low, mod-mod-pow}
 use borrow.Author.Tests.{lt-ltb, le-ltb, le-leb, lt-leb}
-use Rattle.old_crate.specs.declared.Tried.{Tried}
 use Rattle.old_crate.specs.declared.Tried.the-variants.{Passes, Fails}
 use Rattle.old_crate.specs.Sequence.{doubledOf, sequenceOf, passes, offsetSequence}
 

@@ -1,0 +1,2 @@
+-- Ones: the places of value one among a word's first places.
+pub mod Ones

@@ -1,0 +1,66 @@
+-- One turn of the crate's list: the word at an index of the bytes. Assumes nothing.
+use Prim.Native.Nat.{ℕ, suc, _+_, _*_, _/_, min, _≤_, _<_}
+use mathlib.Core.Path.{_≡_, refl, sym, ap, _∙_}
+use mathlib.Core.List.{List, [], _∷_, _++_}
+use native.Mathlib.Omega.{arith}
+use lib.ListN.{length, take, drop, length-take}
+use lib.Seq.{take-all, take-length}
+use lib.Dec.{ltb}
+use borrow.Author.Tests.{ltb-true, ltb-false}
+use Rattle.base.proofs.Tests.{either}
+use Rattle.wire.specs.Bytes.{words16, be16}
+use Rattle.standard.specs.Chunks.{coversOf, valuesIn}
+use Rattle.old_crate.specs.Sequence.{movedBy}
+use Rattle.old_crate.specs.Crate.{crateNumbersFrom}
+use Rattle.utils.proofs.BytesLaws.{pairUp-cons, pairUp-end, length-pairUp}
+use Rattle.rle.specs.Along.{along}
+use Rattle.rle.specs.Inside.{stepOf}
+use Rattle.rle.specs.Failing.{stopAt}
+use Rattle.rle.proofs.CrateLaws.{crate-nil, crate-cons, crate-passing, crate-failing, length-crate}
+
+-- what is still to be listed from an index of the bytes on, with the start moved so far
+abbrev pub here : ℕ → ℕ → List ℕ → ℕ → ℕ → List ℕ
+here end t bytes at start = crateNumbersFrom end t start (words16 (drop at bytes))
+
+-- the numbers of one word
+abbrev pub added : ℕ → ℕ → ℕ → ℕ → List ℕ
+added end t w start = along (stepOf t) start (take (stopAt start end t w) (valuesIn w))
+
+module _ (end t : ℕ) (bytes : List ℕ) where
+  -- the count fits its type
+  pub length-here : (start : ℕ) → start < 65536 → length bytes ≤ 262144 → length (here end t bytes 0 start) ≤ 2147352576
+  length-here start s h = omega (arith, length-crate end t start (words16 bytes) s, length-pairUp 256 bytes)
+
+  module _ (at start : ℕ) where
+    -- fewer than two bytes are left
+    pub here-end : length bytes ≤ at + 1 → here end t bytes at start ≡ []
+    here-end h = rw (pairUp-end 256 bytes at h) (crate-nil end t start)
+
+    module _ (s : start < 65536) (h : at + 1 < length bytes) where
+      abbrev w : ℕ
+      w = be16 bytes at
+
+      here-cons : here end t bytes at start ≡ crateNumbersFrom end t start (w ∷ words16 (drop (at + 2) bytes))
+      here-cons = rw (pairUp-cons 256 bytes at (let k : at + 2 ≤ length bytes = omega arith in k))
+
+      -- a one of the word fails: nothing after it is listed
+      pub here-last : stopAt start end t w < coversOf w → here end t bytes at start ≡ added end t w start ++ []
+      here-last k = here-cons ∙ crate-failing end t start w (words16 (drop (at + 2) bytes)) s k
+
+      -- none fails
+      pub here-next : coversOf w ≤ stopAt start end t w → here end t bytes at start ≡ added end t w start ++ here end t bytes (at + 2) (movedBy (coversOf w) t start)
+      here-next k = here-cons ∙ crate-passing end t start w (words16 (drop (at + 2) bytes)) s k
+
+      -- in either case the word's numbers come first
+      pub here-word : (rest : List ℕ) × (here end t bytes at start ≡ added end t w start ++ rest)
+      here-word = (_, here-cons ∙ crate-cons end t start w (words16 (drop (at + 2) bytes)) s)
+
+-- no more bytes are read than the longest packet has, nor than there are
+pub part : (k size : ℕ) (l : List ℕ) → size ≡ min k (length l) → take size l ≡ take k l
+part k size l e =
+    either (ltb k (length l))
+    (λ t. let h : k < length l = ltb-true _ _ t in let z : size ≡ k = omega arith in rw z)
+    (λ f. let h : length l ≤ k = ltb-false _ _ f in let z : size ≡ length l = omega arith in rw (z, take-length l, take-all k l h))
+
+pub length-part : (k size : ℕ) (l : List ℕ) → size ≡ min k (length l) → size ≡ length (take size l)
+length-part k size l e = omega (arith, length-take size l)

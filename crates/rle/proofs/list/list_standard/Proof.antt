@@ -1,0 +1,192 @@
+use Prim.Native.Nat.{ℕ, _+_, _-_, _^_, _*_, _≤_, _<_}
+use mathlib.Core.List.{List, [], _++_, append-nil}
+use mathlib.Core.Path.{_≡_, refl, sym, ap, _∙_}
+use native.Mathlib.Nat.{one-mul}
+use native.Mathlib.Omega.{arith}
+use borrow.Author.Needs.{needs}
+use lib.ListN.{length, take, drop}
+use Rattle.wire.specs.Bytes.{words16, be16}
+use Rattle.standard.specs.Chunks.{coversOf, valuesIn}
+use Rattle.standard.specs.Standard.{numbersOf}
+use Rattle.base.proofs.Filling.{Filling, start, skip, moved, room-for, puts, done}
+use Rattle.base.proofs.Stores.{Wrote}
+use Rattle.rle.proofs.Writing.{wrote, wrote-last}
+use Rattle.rle.specs.Along.{along}
+use Rattle.rle.specs.Inside.{insideCount, stepOf}
+use Rattle.rle.proofs.StandardTurn.{Standing, here, begin-standing, here-start, here-end, here-word, here-last, here-next, next-standing}
+use Rattle.rle.proofs.list.list_standard.Statement.{statement}
+use Rattle.rle.proofs.list.list_standard.Tie as tie
+use Rattle.rle.proofs.list.list_standard.Reads as reads
+use Rattle.rle.proofs.list.list_standard.Lts as lts
+use Rattle.chunk.proofs.covers.Reads as covers-reads
+use Rattle.rle.proofs.inside_count.Reads as inside-count-reads
+use Rattle.rle.proofs.word.store_word.Reads as store-word-reads
+use Rattle.utils.proofs.doubled.Reads as doubled-reads
+use Rattle.utils.proofs.moved_by.Reads as moved-by-reads
+use Rattle.utils.proofs.pair.Reads as pair-reads
+
+abbrev Inv-loop : tie.InvT-loop
+Inv-loop bytes g out₀ step left₀ first₀ at₀ n₀ out left first at n =
+    (at ≤ length bytes) × Standing g left first × Filling (numbersOf g (words16 bytes)) out₀ out (here g bytes at left) n
+
+abbrev μ-loop : tie.MeasureT-loop
+μ-loop bytes g out₀ step left₀ first₀ at₀ n₀ out left first at n = length bytes - at
+
+-- the function's entry, from the loop's head
+abbrev entry : tie.At-loop Inv-loop μ-loop → tie.Start Inv-loop μ-loop
+entry l = l .before .before .before .before .before
+
+-- the step that is computed once
+stepped : (l : tie.At-loop Inv-loop μ-loop) → l .before .before .doubled .result ≡ stepOf (entry l .args .g .thinning)
+stepped l = l .before .before .doubled .ensures ∙ (rw (one-mul (2 ^ (entry l .args .g .thinning))))
+
+-- the word at hand
+abbrev word : tie.At-loop Inv-loop μ-loop → ℕ
+word l = be16 (entry l .args .bytes .now) (l .loop .at)
+
+-- the numbers that it adds
+abbrev added : tie.At-loop Inv-loop μ-loop → List ℕ
+added l = along (stepOf (entry l .args .g .thinning)) (l .loop .first) (take (l .loop .left) (valuesIn (word l)))
+
+-- they were stored
+stored : (c : tie.After-store-word Inv-loop μ-loop)
+    → let l = c .before .before .before .before .before .before in Wrote (l .loop .out) (l .loop .n) (added l) (c .store-word .last .0) (c .store-word .result)
+stored c =
+    let l = c .before .before .before .before .before .before in
+    rw (← stepped l, ← c .before .before .pair .ensures) (c .store-word .ensures)
+
+-- src/lib.rt:140:9
+doubled-requires : tie.Need-doubled-requires Inv-loop μ-loop
+doubled-requires c κs = search needs
+
+-- src/lib.rt:141:9
+inside-count-requires : tie.Need-inside-count-requires Inv-loop μ-loop
+inside-count-requires c κs = search needs
+
+-- src/lib.rt:145:5
+loop-holds : tie.Need-loop-holds Inv-loop μ-loop
+loop-holds c = let s = c .before .before .before .before in
+    let g = s .args .g in
+    (omega arith, rw (c .inside-count .ensures) (begin-standing g (search needs)), rw (c .inside-count .ensures) (skip (here-start g (s .args .bytes .now)) (start (s .pre))))
+
+-- src/lib.rt:145:11
+add-loop : tie.Need-add-loop Inv-loop μ-loop
+add-loop c = search needs
+
+-- src/lib.rt:146:29
+shared-slice-read-pair : tie.Need-shared-slice-read-pair Inv-loop μ-loop
+shared-slice-read-pair c = search needs
+
+-- src/lib.rt:146:46
+add-pair : tie.Need-add-pair Inv-loop μ-loop
+add-pair c = search needs
+
+-- src/lib.rt:146:40
+shared-slice-read-pair-2 : tie.Need-shared-slice-read-pair-2 Inv-loop μ-loop
+shared-slice-read-pair-2 c = search needs
+
+-- src/lib.rt:146:13
+pair-requires : tie.Need-pair-requires Inv-loop μ-loop
+pair-requires c κs = search needs
+
+-- src/lib.rt:147:9
+store-word-requires : tie.Need-store-word-requires Inv-loop μ-loop
+store-word-requires c κs = let p = c .before in
+    let l = p .before .before .before .before in
+    let s = entry l in
+    let h = p .before .before .before .loop-test .taken in
+    let e = here-word (s .args .g) (s .args .bytes .now) (l .loop .at) (l .loop .left) (l .loop .first) (l .loop .inv .1) h in
+    rw (stepped l, p .pair .ensures) (room-for (added l) _ e (l .loop .inv .2))
+
+-- src/lib.rt:148:13
+covers-requires : tie.Need-covers-requires Inv-loop μ-loop
+covers-requires c κs = search needs
+
+-- src/lib.rt:149:20
+cast-if1 : tie.Need-cast-if1 Inv-loop μ-loop
+cast-if1 c = search needs
+
+-- src/lib.rt:150:13
+same-length : tie.Need-same-length Inv-loop μ-loop
+same-length c = search needs
+
+-- src/lib.rt:150:13
+returns : tie.Need-returns Inv-loop μ-loop
+returns c = let w = c .before .before .before .before in
+    let l = w .before .before .before .before .before .before in
+    let s = entry l in
+    let h = w .before .before .before .before .before .loop-test .taken in
+    let k : l .loop .left ≤ coversOf (word l) = rw (← w .before .before .pair .ensures, ← c .before .covers .ensures) (c .if1 .taken) in
+    wrote-last (here-last (s .args .g) (s .args .bytes .now) (l .loop .at) (l .loop .left) (l .loop .first) (l .loop .inv .1) h k) (stored w) (l .loop .inv .2)
+
+-- src/lib.rt:152:17
+cast-left : tie.Need-cast-left Inv-loop μ-loop
+cast-left c = search needs
+
+-- src/lib.rt:152:9
+sub-left : tie.Need-sub-left Inv-loop μ-loop
+sub-left c = search needs
+
+-- src/lib.rt:153:9
+moved-by-requires : tie.Need-moved-by-requires Inv-loop μ-loop
+moved-by-requires c κs = search needs
+
+-- src/lib.rt:154:9
+add-at : tie.Need-add-at Inv-loop μ-loop
+add-at c = search needs
+
+-- src/lib.rt:145:5
+loop-less : tie.Need-loop-less Inv-loop μ-loop
+loop-less c = search needs
+
+-- src/lib.rt:145:5
+loop-again : tie.Need-loop-again Inv-loop μ-loop
+loop-again c = let v = c .before .before in
+    let w = v .before .before .before in
+    let l = w .before .before .before .before .before .before in
+    let s = entry l in
+    let h = w .before .before .before .before .before .loop-test .taken in
+    let cov : v .covers .result ≡ coversOf (word l) = v .covers .ensures ∙ ap coversOf (w .before .before .pair .ensures) in
+    let k : coversOf (word l) < l .loop .left = rw (← cov) (c .before .if1 .left) in (
+      omega arith,
+      rw (c .moved-by .ensures, cov) (next-standing (s .args .g) (l .loop .left) (l .loop .first) (coversOf (word l)) k (l .loop .inv .1)),
+      rw cov (wrote (here-next (s .args .g) (s .args .bytes .now) (l .loop .at) (l .loop .left) (l .loop .first) (l .loop .inv .1) h k) (stored w) (l .loop .inv .2)),
+    )
+
+-- src/lib.rt:136:1
+same-length-2 : tie.Need-same-length-2 Inv-loop μ-loop
+same-length-2 c = search needs
+
+-- src/lib.rt:136:1
+returns-2 : tie.Need-returns-2 Inv-loop μ-loop
+returns-2 c = let l = c .before in
+    let s = entry l in
+    done (here-end (s .args .g) (s .args .bytes .now) (l .loop .at) (l .loop .left) (c .loop-test .left)) (l .loop .inv .2)
+
+pub list-standard-spec : {M : Type 1} → statement M
+list-standard-spec =
+    tie.close
+    (tie.spec
+    Inv-loop
+    μ-loop
+    doubled-requires
+    inside-count-requires
+    loop-holds
+    add-loop
+    shared-slice-read-pair
+    add-pair
+    shared-slice-read-pair-2
+    pair-requires
+    store-word-requires
+    covers-requires
+    cast-if1
+    same-length
+    returns
+    cast-left
+    sub-left
+    moved-by-requires
+    add-at
+    loop-less
+    loop-again
+    same-length-2
+    returns-2)

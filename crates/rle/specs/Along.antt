@@ -1,0 +1,28 @@
+-- Numbers one step apart on the circle of 65,536, one for each value; those of value one are listed.
+--     progression    a run of them
+--     along          those of value one
+use Prim.Native.Nat.{ℕ, zero, suc, _+_, _%_}
+use mathlib.Core.Bool.{Bool, cond}
+use mathlib.Core.Path.{_≡_}
+use mathlib.Core.List.{List, [], _∷_, _++_}
+use lib.ListN.{length, drop}
+use lib.Dec.{eqb}
+use Rattle.standard.specs.Range.{circle}
+
+-- the number one step on
+abbrev pub onward : ℕ → ℕ → ℕ
+onward step first = (first + step) % circle
+
+-- n numbers from the first on
+unfoldable pub progression : ℕ → ℕ → ℕ → List ℕ
+progression step first zero = []
+progression step first (suc n) = first ∷ progression step (onward step first) n
+
+-- the first value has the first number
+unfoldable pub along : ℕ → ℕ → List ℕ → List ℕ
+along step first [] = []
+along step first (v ∷ vs) = cond (eqb v 1) (first ∷ along step (onward step first) vs) (along step (onward step first) vs)
+
+-- what a list that fits leaves: its length as the answer, and it in front of the old contents
+abbrev pub Filled : List ℕ → List ℕ → ℕ → List ℕ → Type 0
+Filled whole out r out′ = (r ≡ length whole) × (out′ ≡ whole ++ drop (length whole) out)

@@ -1,0 +1,164 @@
+// The numbers and the chunk words of loss and duplicate blocks (RFC 3611, 4.1 and 4.2), in both readings, from the bytes of the words.
+// Which bytes those are, and the checks before, are the callers'.
+mod list;
+mod word;
+
+ghost use mathlib.Core.Path.{_≡_};
+ghost use lib.ListN.{length, take};
+ghost use Rattle.wire.specs.Bytes.{words16};
+ghost use Rattle.refusals.specs.Answers.{shown, Listed};
+ghost use Rattle.standard.specs.Range.{rangeOf, numberOf};
+ghost use Rattle.standard.specs.Standard.{numbersOf};
+ghost use Rattle.old_crate.specs.Crate.{crateNumbersFrom};
+ghost use Rattle.rle.specs.Inside.{insideCount};
+ghost use Rattle.rle.specs.Failing.{againOf, firstFail, longest};
+use refusals::Answer;
+use refusals::Refusal;
+use standard::Range;
+use wire::Fields;
+
+// No place fails: larger than any place.
+const NEVER: usize = 18446744073709551615;
+
+// The crate reading's functions read no more bytes than the longest packet has.
+const LONGEST: usize = 262144;
+
+// The range that a block's fields name. RFC 3611, 4.1; document 01, "Standard reading".
+pub fn range_of(f: Fields) -> Range
+    ensures { λ r. ⌜ r ≡ rangeOf f ⌝ }
+{
+    let begin = f.begin;
+    let end = f.end;
+    let thinning = f.thinning;
+    if begin == end {
+        return Range {
+            begin,
+            size: 65536,
+            thinning,
+        };
+    }
+    let size = (end as usize + 65536 - begin as usize) % 65536;
+    Range {
+        begin,
+        size,
+        thinning,
+    }
+}
+
+// How many positions are inside the range: 0 .. inside_count - 1, and no others (document 01, "Standard reading").
+pub fn inside_count(g: Range) -> usize
+    ensures { λ r. ⌜ r ≡ insideCount g ⌝ }
+{
+    word::ceil_shift(g.size, g.thinning)
+}
+
+// The sequence number of a position, inside or not (RFC 3611, 4.1).
+pub fn number_at(g: Range, p: usize) -> u16
+    ensures { λ r. ⌜ r ≡ numberOf g p ⌝ }
+{
+    let begin = g.begin;
+    ((begin as usize + utils::times_two_to(p, g.thinning) % 65536) % 65536) as u16
+}
+
+// How many numbers the words list. One pass over the words, by arithmetic, up to the range's end (RFC 3611, 4.1; document 01, "Standard
+// reading"). Port of: rle.rs Rle::sequence_iter and its count; differs: the standard reading, and no walk over positions.
+pub fn count_standard(bytes: &[u8], g: Range) -> usize
+    ensures { λ r. ⌜ r ≡ length (numbersOf g (words16 (now (bytes .entry)))) ⌝ }
+{
+    let mut left = inside_count(g);
+    let mut at: usize = 0;
+    let mut n: usize = 0;
+    while at + 1 < bytes.len() {
+        let w = utils::pair(bytes[at], bytes[at + 1]);
+        n += chunk::ones_before(w, left);
+        let covered = chunk::covers(w) as usize;
+        if left <= covered {
+            return n;
+        }
+        left -= covered;
+        at += 2;
+    }
+    n
+}
+
+// Lists the numbers, or 11 with the room needed and the room lent, nothing written. Port of: rle.rs Rle::sequence_iter.
+pub fn fill_standard(bytes: &[u8], g: Range, out: &mut [u16]) -> Answer
+    ensures { λ r. ⌜ Listed (shown (numbersOf g (words16 (now (bytes .entry))))) (now (out .entry)) r (now (out .exit)) ⌝ }
+{
+    let need = count_standard(bytes, g);
+    if need <= out.len() {
+        Answer::Done(list::list_standard(bytes, g, out))
+    } else {
+        Answer::Refused(Refusal::NoRoom(need, out.len()))
+    }
+}
+
+// As far from the start as this, and further, numbers pass the crate's test again.
+fn again_from(start: u16, end: u16) -> usize
+    ensures { λ r. ⌜ r ≡ againOf start end ⌝ }
+{
+    if start < end {
+        65536 - start as usize
+    } else {
+        65536
+    }
+}
+
+// The first place whose number, from a start on, fails the crate's test; the largest usize where none does. Every place before it passes
+// (document 01, "Crate reading"). Port of: xr/mod.rs xr_offset_sequence; differs: solved for the place.
+pub fn first_fail(start: u16, end: u16, thinning: u8) -> usize
+    ensures { λ r. ⌜ r ≡ firstFail start end thinning ⌝ }
+{
+    if 16 <= thinning {
+        return NEVER;
+    }
+    let gap = (end as usize + 65535 - start as usize) % 65536 + 1;
+    let q = word::ceil_shift(gap, thinning);
+    if utils::times_two_to(q, thinning) < again_from(start, end) {
+        q
+    } else {
+        NEVER
+    }
+}
+
+// How many numbers the crate lists, of at most the first 262,144 bytes: a longer slice is no part of a packet, and its count need not fit.
+// One pass over the words. Port of: rle.rs Rle::sequence_iter and its count; differs: no walk over positions.
+pub fn count_crate(bytes: &[u8], end: u16, thinning: u8, begin: u16) -> usize
+    ensures { λ r. ⌜ r ≡ length (crateNumbersFrom end thinning begin (words16 (take longest (now (bytes .entry))))) ⌝ }
+{
+    let size = word::least(LONGEST, bytes.len());
+    list::tally_crate(&bytes[..size], end, thinning, begin)
+}
+
+// Lists the crate's numbers, up to the first that fails, or 11. Port of: rle.rs Rle::sequence_iter.
+pub fn fill_crate(bytes: &[u8], end: u16, thinning: u8, begin: u16, out: &mut [u16]) -> Answer
+    ensures { λ r. ⌜ Listed (shown (crateNumbersFrom end thinning begin (words16 (take longest (now (bytes .entry)))))) (now (out .entry)) r (now (out .exit)) ⌝ }
+{
+    let size = word::least(LONGEST, bytes.len());
+    let part = &bytes[..size];
+    let need = list::tally_crate(part, end, thinning, begin);
+    if need <= out.len() {
+        Answer::Done(list::list_crate(part, end, thinning, begin, out))
+    } else {
+        Answer::Refused(Refusal::NoRoom(need, out.len()))
+    }
+}
+
+// How many whole words there are.
+pub fn count_words(bytes: &[u8]) -> usize
+    ensures { λ r. ⌜ r ≡ length (words16 (now (bytes .entry))) ⌝ }
+{
+    bytes.len() / 2
+}
+
+// Lists the chunk words themselves, or 11. Port of: rle.rs Rle::chunk_iter; differs: words, not kinds (chunk::chunk_of gives a word's kind).
+pub fn fill_words(bytes: &[u8], out: &mut [u16]) -> Answer
+    ensures { λ r. ⌜ Listed (shown (words16 (now (bytes .entry)))) (now (out .entry)) r (now (out .exit)) ⌝ }
+{
+    let need = count_words(bytes);
+    if need <= out.len() {
+        Answer::Done(list::list_words(bytes, out))
+    } else {
+        Answer::Refused(Refusal::NoRoom(need, out.len()))
+    }
+}

@@ -1,0 +1,134 @@
+// One chunk word: its numbers stored, and where its first failing one is. Private to the crate.
+ghost use mathlib.Core.Path.{_≡_};
+ghost use Prim.Native.Nat.{_+_, _*_, _-_, _/_, _%_, _^_, min, _≤_, _<_};
+ghost use lib.ListN.{length, take};
+ghost use Rattle.standard.specs.Chunks.{coversOf, valueOf, valuesIn};
+ghost use Rattle.base.proofs.Stores.{Wrote};
+ghost use Rattle.rle.specs.Along.{progression, along};
+ghost use Rattle.rle.specs.Inside.{ceilDiv};
+ghost use Rattle.rle.specs.Failing.{firstFail, stopAt};
+
+pub(crate) fn least(a: usize, b: usize) -> usize
+    ensures { λ r. ⌜ r ≡ min a b ⌝ }
+{
+    if a < b { a } else { b }
+}
+
+// a divided by 2 to the t, rounded up.
+pub(crate) fn ceil_shift(a: usize, t: u8) -> usize
+    ensures { λ r. ⌜ r ≡ ceilDiv a (2 ^ t) ⌝ }
+{
+    if a == 0 {
+        return 0;
+    }
+    if 64 <= t {
+        return 1;
+    }
+    ((a - 1) >> (t as usize)) + 1
+}
+
+// The value at a vector's place.
+fn bit_at(w: u16, q: usize) -> u16
+    requires { ⌜ (32768 ≤ w) × (q ≤ 14) ⌝ }
+    ensures { λ r. ⌜ r ≡ valueOf w q ⌝ }
+{
+    (w >> (14 - q)) & 1
+}
+
+// Stores a run's numbers, one step apart.
+fn store_run(out: &mut [u16], at: usize, count: usize, first: u16, step: u16) -> usize
+    requires { ⌜ at + count ≤ length (now out) ⌝ }
+    ensures { λ r. ⌜ Wrote (now (out .entry)) at (progression step first count) (now (out .exit)) r ⌝ }
+{
+    let end = at + count;
+    let mut n = at;
+    let mut x = first;
+    while n < end {
+        out[n] = x;
+        x = std::num::wrapping_add_u16(x, step);
+        n += 1;
+    }
+    n
+}
+
+// Stores the numbers of a vector's ones, up to a place.
+fn store_vector(out: &mut [u16], at: usize, w: u16, room: usize, first: u16, step: u16) -> usize
+    requires { ⌜ (32768 ≤ w) × (room ≤ 15) × (at + length (along step first (take room (valuesIn w))) ≤ length (now out)) ⌝ }
+    ensures { λ r. ⌜ Wrote (now (out .entry)) at (along step first (take room (valuesIn w))) (now (out .exit)) r ⌝ }
+{
+    let mut q: usize = 0;
+    let mut n = at;
+    let mut x = first;
+    while q < room {
+        if bit_at(w, q) == 1 {
+            out[n] = x;
+            n += 1;
+        }
+        x = std::num::wrapping_add_u16(x, step);
+        q += 1;
+    }
+    n
+}
+
+// Stores the numbers of a word's ones, up to a place. Kinds are told apart once for each word.
+pub(crate) fn store_word(
+    out: &mut [u16],
+    at: usize,
+    w: u16,
+    room: usize,
+    first: u16,
+    step: u16,
+) -> usize
+    requires { ⌜ at + length (along step first (take room (valuesIn w))) ≤ length (now out) ⌝ }
+    ensures { λ r. ⌜ Wrote (now (out .entry)) at (along step first (take room (valuesIn w))) (now (out .exit)) r ⌝ }
+{
+    if w < 0x4000 {
+        return at;
+    }
+    if w < 0x8000 {
+        return store_run(
+            out,
+            at,
+            least(room, chunk::run_length(w) as usize),
+            first,
+            step,
+        );
+    }
+    store_vector(out, at, w, least(room, 15), first, step)
+}
+
+// The place of a vector's first one that fails, from the first place that fails on; 15 where none does.
+// Port of: rle.rs RleSequenceIter::next with xr_offset_sequence; differs: it gives the place, not the numbers before it.
+fn stop_in_vector(w: u16, start: u16, end: u16, thinning: u8, from: usize) -> usize
+    requires { ⌜ (32768 ≤ w) × (from ≤ 15) × (from ≡ firstFail start end thinning) ⌝ }
+    ensures { λ r. ⌜ r ≡ stopAt start end thinning w ⌝ }
+{
+    let mut q = from;
+    while q < 15 {
+        if bit_at(w, q) == 1 {
+            if !utils::passes(start, end, utils::moved_by(q as u16, thinning, start)) {
+                return q;
+            }
+        }
+        q += 1;
+    }
+    15
+}
+
+// The place of a word's first one whose number fails the crate's test; how many places it has where none does.
+pub(crate) fn stop_at(w: u16, start: u16, end: u16, thinning: u8) -> usize
+    ensures { λ r. ⌜ r ≡ stopAt start end thinning w ⌝ }
+{
+    let covered = chunk::covers(w) as usize;
+    if w < 0x4000 {
+        return covered;
+    }
+    let first = crate::first_fail(start, end, thinning);
+    if covered <= first {
+        return covered;
+    }
+    if w < 0x8000 {
+        return first;
+    }
+    stop_in_vector(w, start, end, thinning, first)
+}
