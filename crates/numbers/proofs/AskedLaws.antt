@@ -1,0 +1,94 @@
+-- What a reading is asked: a block's numbers and words from the bytes of its words, and each way in which they are refused.
+use Prim.Native.Nat.{ℕ, _+_, _-_, _≤_}
+use mathlib.Core.Path.{_≡_, refl, sym, ap, _∙_}
+use mathlib.Core.List.{List}
+use native.Mathlib.Omega.{arith}
+use lib.ListN.{length, take, drop, length-take}
+use lib.Seq.{take-all}
+use Rattle.refusals.specs.declared.Refusal.{Refusal}
+use Rattle.refusals.specs.declared.Checked.the-variants.{Fine, Unfit}
+use Rattle.refusals.specs.declared.Answer.{Answer}
+use Rattle.refusals.specs.Answers.{Or, shown, refused, Listed}
+use Rattle.wire.specs.declared.Reading.{Reading}
+use Rattle.wire.specs.declared.Reading.the-variants.{Standard, Crate}
+use Rattle.wire.specs.declared.Fields.{Fields}
+use Rattle.wire.specs.declared.Located.the-variants.{At, Missing}
+use Rattle.wire.specs.Packet.{locate}
+use Rattle.wire.specs.Bytes.{words16}
+use Rattle.wire.specs.Block.{checkOf, blockLength, fieldsAt}
+use Rattle.standard.specs.Range.{rangeOf}
+use Rattle.standard.specs.Standard.{numbersOf}
+use Rattle.old_crate.specs.Crate.{crateNumbersFrom}
+use Rattle.readings.specs.Questions.{numbersShown, wordsShown, wordsIn, numbersIn}
+use Rattle.readings.specs.Packets.{numbersAsked, wordsAsked}
+use Rattle.rle.specs.Failing.{longest}
+use Rattle.numbers.specs.Words.{wordBytes}
+
+-- a part of at most n is the whole of what has no more
+short : (n m : ℕ) (l : List ℕ) → m ≤ n → take n (take m l) ≡ take m l
+short n m l h = take-all n (take m l) (rw (length-take m l) (omega arith))
+
+-- the words' bytes in each reading
+pub bytes-standard : (r : Reading) (v : List ℕ) → r ≡ Standard → drop 12 v ≡ wordBytes r v
+bytes-standard r v e = rw e
+
+pub bytes-crate : (r : Reading) (v : List ℕ) (n l : ℕ) (b : List ℕ) → r ≡ Crate → n ≡ l - 14 → l ≡ blockLength v → b ≡ drop 12 v → take n b ≡ wordBytes r v
+bytes-crate r v n l b e k q d = rw (e, k, q, d)
+
+-- a listing call's contract, of what is asked said otherwise
+pub listed-as : {whole asked : Or (List ℕ)} {out out′ : List ℕ} {a : Answer} → whole ≡ asked → Listed whole out a out′ → Listed asked out a out′
+listed-as e l = rw (← e) l
+
+module _ (r : Reading) (t : ℕ) (v : List ℕ) where
+  -- from the fields and the words' bytes that were read
+  module _ (e : checkOf r t v ≡ Fine) (f : Fields) (b : List ℕ) (read : f ≡ fieldsAt v) (bytes : b ≡ wordBytes r v) where
+    pub numbers-standard : r ≡ Standard → shown (numbersOf (rangeOf f) (words16 b)) ≡ numbersShown r t v
+    unfolding numbersShown
+    numbers-standard q = rw (read, bytes, e, q)
+
+    -- the crate's words are no longer than the longest packet
+    crate-words : r ≡ Crate → blockLength v ≤ 262144 → take longest b ≡ take (blockLength v - 14) (drop 12 v)
+    crate-words q h =
+        ap (take longest) (bytes ∙ ap (λ (x : Reading). wordBytes x v) q) ∙ short longest (blockLength v - 14) (drop 12 v) (omega arith)
+
+    pub numbers-crate : r ≡ Crate → blockLength v ≤ 262144
+        → shown (crateNumbersFrom (f .end) (f .thinning) (f .begin) (words16 (take longest b))) ≡ numbersShown r t v
+    unfolding numbersShown
+    numbers-crate q h =
+        ap (λ (l : List ℕ). shown (crateNumbersFrom (f .end) (f .thinning) (f .begin) (words16 l))) (crate-words q h) ∙ (rw (read, e, q))
+
+  words-read : (r : Reading) → wordsIn r v ≡ words16 (wordBytes r v)
+  words-read Standard = refl
+  words-read Crate = refl
+
+  pub words-fine : (b : List ℕ) → b ≡ wordBytes r v → checkOf r t v ≡ Fine → shown (words16 b) ≡ wordsShown r t v
+  unfolding wordsShown
+  words-fine b bytes e = rw (bytes, e, words-read r)
+
+  module _ (x : Refusal) (e : checkOf r t v ≡ Unfit x) where
+    pub numbers-unfit : numbersShown r t v ≡ refused x
+    unfolding numbersShown
+    numbers-unfit = rw e
+
+    pub words-unfit : wordsShown r t v ≡ refused x
+    unfolding wordsShown
+    words-unfit = rw e
+
+module _ (r : Reading) (s : List ℕ) (k t : ℕ) where
+  module _ (at n : ℕ) (e : locate r s k ≡ At at n) where
+    pub numbers-asked : numbersAsked r s k t ≡ numbersShown r t (take (at + n - at) (drop at s))
+    unfolding numbersAsked
+    numbers-asked = let q : at + n - at ≡ n = omega arith in rw (e, q)
+
+    pub words-asked : wordsAsked r s k t ≡ wordsShown r t (take (at + n - at) (drop at s))
+    unfolding wordsAsked
+    words-asked = let q : at + n - at ≡ n = omega arith in rw (e, q)
+
+  module _ (x : Refusal) (e : locate r s k ≡ Missing x) where
+    pub numbers-missing : numbersAsked r s k t ≡ refused x
+    unfolding numbersAsked
+    numbers-missing = rw e
+
+    pub words-missing : wordsAsked r s k t ≡ refused x
+    unfolding wordsAsked
+    words-missing = rw e
