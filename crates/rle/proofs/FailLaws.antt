@@ -3,16 +3,15 @@
 --     before-first      every place before `firstFail` passes
 --     at-first          `firstFail` itself fails, unless it is `never`
 --     never-fails       where it is, every place passes
-use Prim.Native.Nat.{ℕ, zero, suc, _+_, _*_, _-_, _/_, _%_, _^_, _≤_, _<_}
-use mathlib.Core.Path.{_≡_, refl, sym, ap, _∙_}
-use mathlib.Core.Bool.{Bool, true, false, cond, not, _&&_}
+use Prim.Native.Nat.{ℕ, _+_, _*_, _-_, _%_, _^_, _≤_, _<_}
+use mathlib.Core.Path.{_≡_, refl, ap, _∙_}
+use mathlib.Core.Bool.{true, false}
 use native.Mathlib.Nat.{mod-eq-of-lt, mod-lt, mul-le-mul-right, mul-le-mul-left, mul-mod-left, mul-assoc, add-zero}
 use native.Mathlib.Omega.{arith}
 use lib.Dec.{ltb, leb, lit<}
 use lib.Pow.{pow-pos, pow-mono, pow-add, mod-pow-add, shl-shr, shl-exact}
 use borrow.Author.Tests.{lt-ltb, le-ltb, le-leb, lt-leb, ltb-true, ltb-false, leb-true, leb-false}
 use Rattle.base.proofs.Tests.{either}
-use Rattle.standard.specs.Range.{circle}
 use Rattle.old_crate.specs.Sequence.{passes, sequenceOf, doubledOf}
 use Rattle.rle.specs.Inside.{ceilDiv}
 use Rattle.rle.specs.Failing.{gapOf, againOf, never, firstFail}

@@ -5,7 +5,7 @@ use Prim.Native.Nat.{ℕ, suc, _+_, _*_, _-_, _%_, _^_}
 use mathlib.Core.Bool.{Bool, cond, not, _&&_}
 use mathlib.Core.List.{List, [], _∷_}
 use lib.Dec.{ltb, eqb}
-use Rattle.standard.specs.Chunks.{valuesIn}
+use Rattle.standard.specs.Chunks.{coversOf, valuesIn}
 use Rattle.standard.specs.Range.{circle}
 use Rattle.old_crate.specs.Sequence.{passes, sequenceOf}
 use Rattle.rle.specs.Inside.{ceilDiv}
@@ -44,3 +44,8 @@ stopAt start end t w = stopFrom start end t 0 (valuesIn w)
 -- the crate reading's functions read no more bytes than the longest packet has, so that a count fits its type
 abbrev pub longest : ℕ
 longest = 262144
+
+-- at most as many numbers as these words can list: none of zeros, one for each place else
+unfoldable pub mostOf : List ℕ → ℕ
+mostOf [] = 0
+mostOf (w ∷ ws) = cond (ltb w 16384) 0 (coversOf w) + mostOf ws

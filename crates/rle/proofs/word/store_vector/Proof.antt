@@ -1,100 +1,100 @@
-use Prim.Native.Nat.{_+_, _-_, _≤_, _<_}
-use mathlib.Core.Logic.{⊎-elim}
-use mathlib.Core.Path.{_≡_, refl, sym, ap, _∙_}
-use native.Mathlib.Omega.{arith}
+-- `rle::word::store_vector` meets its contract: what is still to be stored are the numbers of the ones left in v. Assumes nothing.
+use Prim.Native.Nat.{_+_, _-_, _%_, _^_, _*_, _<_}
 use mathlib.Core.List.{_∷_}
-use borrow.Author.Tests.{le-ltb}
+use mathlib.Core.Path.{_≡_, ap}
+use native.Mathlib.Omega.{arith}
 use borrow.Author.Needs.{needs}
-use lib.ListN.{length, take}
-use Rattle.standard.specs.Chunks.{coversOf, valueOf, valuesIn}
-use Rattle.rle.specs.Along.{along, onward}
-use Rattle.rle.proofs.WordLaws.{alongFrom, alongFrom-start, alongFrom-end, alongFrom-one, alongFrom-zero}
-use Rattle.rle.proofs.Storing.{Storing, start, skip, moved, within, put, done}
+use lib.ListN.{take}
+use lib.Pow.{shr-lt, pow-pos}
+use Rattle.standard.specs.Chunks.{valuesIn}
+use Rattle.rle.specs.Along.{along}
+use Rattle.rle.proofs.DigitLaws.{digits, digits-vector, top-below, along-none, along-top}
+use Rattle.rle.proofs.Storing.{Storing, start, skip, within, put, done}
 use Rattle.rle.proofs.word.store_vector.Statement.{statement}
 use Rattle.rle.proofs.word.store_vector.Tie as tie
-use Rattle.rle.proofs.word.store_vector.Reads as reads
-use Rattle.rle.proofs.word.store_vector.Lts as lts
-use Rattle.rle.proofs.word.bit_at.Reads as bit-at-reads
-use Rattle.std.proofs.num.wrapping_add_u16.Reads as wrapping-add-u16-reads
 
 abbrev Inv-loop : tie.InvT-loop
-Inv-loop out₀ at w room first step q₀ n₀ x₀ out q n x =
-    (q ≤ room) × (n ≤ length out) × Storing out₀ at (along step first (take room (valuesIn w))) out (alongFrom step w room q x) n
+Inv-loop out₀ at w room first step v₀ n₀ out v n =
+    (v < 2 ^ room) × Storing out₀ at (along step first (take room (valuesIn w))) out (along step first (digits room v)) n
 
 abbrev μ-loop : tie.MeasureT-loop
-μ-loop out₀ at w room first step q₀ n₀ x₀ out q n x = room - q
+μ-loop out₀ at w room first step v₀ n₀ out v n = v
 
--- the place at hand is one of the word's 15
-has : (c : tie.In-loop Inv-loop μ-loop) → let l = c .before in l .loop .q < coversOf (l .before .before .args .w)
-has c = let l = c .before in
-    let s = l .before .before in
-    let e : coversOf (s .args .w) ≡ 15 = rw (le-ltb _ _ (s .pre .0)) in
-    omega (arith, e, c .loop-test .taken, s .pre .1)
+-- the highest one comes next
+next : (c : tie.After-top-bit Inv-loop μ-loop) → let l = c .before .before in let a = l .before .before .before .args in
+    along (a .step) (a .first) (digits (a .room) (l .loop .v))
+    ≡ (a .first + (a .room - 1 - c .top-bit .result) * a .step) % 65536 ∷ along (a .step) (a .first) (digits (a .room) (l .loop .v - 2 ^ c .top-bit .result))
+next c = let l = c .before .before in let a = l .before .before .before .args in
+    along-top (a .step) (a .first) (a .room) (l .loop .v) (c .top-bit .result) (omega arith) (l .loop .inv .0) (c .top-bit .ensures)
 
--- its value is one: its number is the next
-one : (c : tie.Then1 Inv-loop μ-loop) → let l = c .before .before .before in let a = l .before .before .args in
-    alongFrom (a .step) (a .w) (a .room) (l .loop .q) (l .loop .x) ≡ l .loop .x ∷ alongFrom (a .step) (a .w) (a .room) (l .loop .q + 1) (onward (a .step) (l .loop .x))
-one c = let l = c .before .before .before in let a = l .before .before .args in
-    alongFrom-one (a .step) (a .w) (a .room) (l .loop .q) (l .loop .x) (c .before .before .loop-test .taken) (has (c .before .before)) (sym (c .before .bit-at .ensures) ∙ c .if1 .taken)
+-- it is one of the places asked
+asked : (c : tie.After-top-bit Inv-loop μ-loop) → let l = c .before .before in c .top-bit .result < l .before .before .before .args .room
+asked c = let l = c .before .before in top-below (l .before .before .before .args .room) (l .loop .inv .0) (c .top-bit .ensures)
 
--- it is not one: nothing is stored
-zero : (c : tie.Else1 Inv-loop μ-loop) → let l = c .before .before .before in let a = l .before .before .args in
-    alongFrom (a .step) (a .w) (a .room) (l .loop .q) (l .loop .x) ≡ alongFrom (a .step) (a .w) (a .room) (l .loop .q + 1) (onward (a .step) (l .loop .x))
-zero c = let l = c .before .before .before in let a = l .before .before .args in
-    alongFrom-zero (a .step) (a .w) (a .room) (l .loop .q) (l .loop .x) (c .before .before .loop-test .taken) (has (c .before .before)) (λ v. c .if1 .left (c .before .bit-at .ensures ∙ v))
+vector-bits-requires : tie.Need-vector-bits-requires Inv-loop μ-loop
+vector-bits-requires c κs = search needs
 
--- src/lib.rt:105:5
+cast-v : tie.Need-cast-v Inv-loop μ-loop
+cast-v c = search needs
+
+sub-v : tie.Need-sub-v Inv-loop μ-loop
+sub-v c = search needs
+
+cast-v-2 : tie.Need-cast-v-2 Inv-loop μ-loop
+cast-v-2 c = search needs
+
+shr-v : tie.Need-shr-v Inv-loop μ-loop
+shr-v c = search needs
+
 loop-holds : tie.Need-loop-holds Inv-loop μ-loop
-loop-holds c = let a = c .before .args in
-    (omega arith, omega (arith, c .before .pre .2), skip (alongFrom-start (a .step) (a .w) (a .room) (a .first)) (start (c .before .pre .2)))
+loop-holds c = let s = c .before .before in
+    let a = s .args in
+    let e : c .vector-bits .result ≡ a .w - 32768 = omega (arith, c .vector-bits .ensures, s .pre .0) in
+    let f : a .room + (15 - a .room) ≡ 15 = omega (arith, s .pre .1) in (
+      shr-lt (a .room) (15 - a .room) (rw f (let k : c .vector-bits .result < 2 ^ 15 = omega (arith, c .vector-bits .ensures) in k)),
+      rw e (skip (ap (along (a .step) (a .first)) (digits-vector (a .w) (s .pre .0) (a .room) (s .pre .1))) (start (s .pre .2))),
+    )
 
--- src/lib.rt:106:12
-bit-at-requires : tie.Need-bit-at-requires Inv-loop μ-loop
-bit-at-requires c κs = search needs
+top-bit-requires : tie.Need-top-bit-requires Inv-loop μ-loop
+top-bit-requires c κs = search needs
 
--- src/lib.rt:107:13
+sub-number-on : tie.Need-sub-number-on Inv-loop μ-loop
+sub-number-on c = omega (arith, asked c)
+
+sub-number-on-2 : tie.Need-sub-number-on-2 Inv-loop μ-loop
+sub-number-on-2 c = omega (arith, asked c)
+
+number-on-requires : tie.Need-number-on-requires Inv-loop μ-loop
+number-on-requires c κs = let s = c .before .before .before .before .before in omega (arith, s .pre .1)
+
 mul-out : tie.Need-mul-out Inv-loop μ-loop
 mul-out c = search needs
 
--- src/lib.rt:107:13
 slice-write-out : tie.Need-slice-write-out Inv-loop μ-loop
-slice-write-out c = within (one c) (c .before .before .before .loop .inv .2)
+slice-write-out c = within (next (c .before)) (c .before .before .before .loop .inv .1)
 
--- src/lib.rt:108:13
+without-top-requires : tie.Need-without-top-requires Inv-loop μ-loop
+without-top-requires c κs = search needs
+
 add-n : tie.Need-add-n Inv-loop μ-loop
-add-n c = search needs
+add-n c = omega (arith, within (next (c .before .before)) (c .before .before .before .before .loop .inv .1))
 
--- src/lib.rt:110:9
-wrapping-add-u16-requires : tie.Need-wrapping-add-u16-requires Inv-loop μ-loop
-wrapping-add-u16-requires c κs = search needs
-
--- src/lib.rt:111:9
-add-q : tie.Need-add-q Inv-loop μ-loop
-add-q c = search needs
-
--- src/lib.rt:105:5
 loop-less : tie.Need-loop-less Inv-loop μ-loop
-loop-less c = search needs
+loop-less c = let t = c .before .before in omega (arith, c .without-top .ensures, t .top-bit .ensures .least, pow-pos (t .top-bit .result))
 
--- src/lib.rt:105:5
 loop-again : tie.Need-loop-again Inv-loop μ-loop
-loop-again c = let j = c .before in
-    let l = j .before .before .before in
-    rw (c .wrapping-add-u16 .ensures)
-    (⊎-elim
-    (λ w. let f = moved (w .1) (w .2) (put (one (record { before = j .before; if1 = w .0 })) (l .loop .inv .2)) in (omega arith, omega (arith, f .count, f .same, f .room), f))
-    (λ w. let f = moved (w .1) (w .2) (skip (zero (record { before = j .before; if1 = w .0 })) (l .loop .inv .2)) in (omega arith, omega (arith, f .count, f .same, f .room), f))
-    (j .if1 .came))
+loop-again c = let t = c .before .before in
+    let l = t .before .before in
+    let f = put (next t) (l .loop .inv .1) in
+    (omega (arith, c .without-top .ensures, l .loop .inv .0), rw (c .before .number-on .ensures, c .without-top .ensures) f)
 
--- src/lib.rt:91:1
 same-length : tie.Need-same-length Inv-loop μ-loop
 same-length c = search needs
 
--- src/lib.rt:91:1
 returns : tie.Need-returns Inv-loop μ-loop
 returns c = let l = c .before in
-    let a = l .before .before .args in
-    done (alongFrom-end (a .step) (a .w) (a .room) (l .loop .q) (l .loop .x) (c .loop-test .left)) (l .loop .inv .2)
+    let a = l .before .before .before .args in
+    done (rw (c .loop-test .left) (along-none (a .step) (a .first) (a .room))) (l .loop .inv .1)
 
 pub store-vector-spec : {M : Type 1} → statement M
 store-vector-spec =
@@ -102,13 +102,20 @@ store-vector-spec =
     (tie.spec
     Inv-loop
     μ-loop
+    vector-bits-requires
+    cast-v
+    sub-v
+    cast-v-2
+    shr-v
     loop-holds
-    bit-at-requires
+    top-bit-requires
+    sub-number-on
+    sub-number-on-2
+    number-on-requires
     mul-out
     slice-write-out
+    without-top-requires
     add-n
-    wrapping-add-u16-requires
-    add-q
     loop-less
     loop-again
     same-length
