@@ -105,26 +105,27 @@ fn go(bytes: &[u8], g: Range, c: Cursor, budget: usize, out: &mut [u16]) -> Stre
     while left != 0 {
         let i = at.word;
         if words <= i {
+            let taken = budget - left;
             return Stretch {
                 next: at,
-                taken: budget - left,
+                taken,
                 listed: n,
             };
         }
         let w = word_at(bytes, i);
-        let m = lesser(left, steps_in(w) - at.place);
-        let room = lesser(m, above(inside, at.position));
-        n = store::store_places(
-            out,
-            n,
-            w,
-            at.place,
-            room,
-            rle::number_at(g, at.position),
-            step,
-        );
-        at = moved(w, m, at);
-        left -= m;
+        let takes = steps_in(w) - at.place;
+        let room = lesser(lesser(left, takes), above(inside, at.position));
+        let first = rle::number_at(g, at.position);
+        n = store::store_places(out, n, w, at.place, room, first, step);
+        if left < takes {
+            return Stretch {
+                next: moved(w, left, at),
+                taken: budget,
+                listed: n,
+            };
+        }
+        at = moved(w, takes, at);
+        left -= takes;
     }
     Stretch {
         next: at,

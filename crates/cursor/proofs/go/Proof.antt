@@ -18,7 +18,7 @@ use borrow.Author.Needs.{needs}
 use native.Mathlib.Omega.{arith}
 use native.Mathlib.Nat.{one-mul}
 use mathlib.Core.List.{List, _++_}
-use mathlib.Core.Path.{_≡_, ap, _∙_}
+use mathlib.Core.Path.{_≡_, refl, ap, _∙_}
 use Prim.Native.Nat.{ℕ, _+_, _-_, _^_, min, _≤_, _<_}
 use Rattle.cursor.proofs.go.Statement.{statement}
 use Rattle.cursor.proofs.go.Tie as tie
@@ -37,47 +37,52 @@ entry l = l .before .before .before .before .before
 abbrev words-of : tie.At-loop Inv-loop μ-loop → List ℕ
 words-of l = words16 (entry l .args .bytes .now)
 
--- the word at hand
+-- the word at hand, and its steps from the place on
 abbrev word : tie.At-loop Inv-loop μ-loop → ℕ
 word l = wordAt (words-of l) (l .loop .at)
 
--- the loop's head, from where the steps of the turn are counted
+abbrev takes : tie.At-loop Inv-loop μ-loop → ℕ
+takes l = stepsIn (word l) - l .loop .at .place
+
+-- the cursor after m of them, and the numbers that they add
+abbrev next : tie.At-loop Inv-loop μ-loop → ℕ → Cursor
+next l m = movedIn (word l) m (l .loop .at)
+
+abbrev added : tie.At-loop Inv-loop μ-loop → ℕ → List ℕ
+added l m = let g = entry l .args .g in
+    along (stepOf (g .thinning)) (numberOf g (l .loop .at .position)) (placesIn (word l) (l .loop .at .place) (min m (insideCount g - l .loop .at .position)))
+
+-- the loop's head, from where the turn's steps are counted
 abbrev head : tie.After-lesser Inv-loop μ-loop → tie.At-loop Inv-loop μ-loop
 head c = c .before .before .before .before .before .before
 
--- there is a word at hand
+-- there is a word at hand, and a place of it
 has : (c : tie.Else1 Inv-loop μ-loop) → let l = c .before .before in l .loop .at .word < length (words-of l)
 has c = let l = c .before .before in omega (arith, length-pairUp 256 (entry l .args .bytes .now), c .if1 .left)
-
-steps : (c : tie.After-steps-in Inv-loop μ-loop) → let l = c .before .before .before .before in c .steps-in .result ≡ stepsIn (word l)
-steps c = c .steps-in .ensures ∙ ap stepsIn (c .before .word-at .ensures)
-
--- the turn's steps: as many as are left, and as the word has
-counted : (c : tie.After-lesser Inv-loop μ-loop) → let l = head c in c .lesser .result ≡ min (l .loop .left) (stepsIn (word l) - l .loop .at .place)
-counted c = let l = head c in c .lesser .ensures ∙ ap (λ (n : ℕ). min (l .loop .left) (n - l .loop .at .place)) (steps (c .before .before))
 
 placed : (c : tie.Else1 Inv-loop μ-loop) → let l = c .before .before in l .loop .at .place < stepsIn (word l)
 placed c = let l = c .before .before in legal-place (words-of l) (l .loop .at) (l .loop .inv .0 .stands) (has c)
 
-few : (c : tie.After-lesser Inv-loop μ-loop) → let l = head c in (c .lesser .result ≤ l .loop .left) × (l .loop .at .place + c .lesser .result ≤ stepsIn (word l))
-few c = let l = head c in
-    let m : c .lesser .result ≡ min (l .loop .left) (stepsIn (word l) - l .loop .at .place) = counted c in
-    let p : l .loop .at .place < stepsIn (word l) = placed (c .before .before .before .before) in
-    (omega arith, omega arith)
+steps : (c : tie.After-steps-in Inv-loop μ-loop) → let l = c .before .before .before .before in c .steps-in .result ≡ stepsIn (word l)
+steps c = c .steps-in .ensures ∙ ap stepsIn (c .before .word-at .ensures)
 
--- the numbers that the turn adds
-abbrev added : tie.After-lesser Inv-loop μ-loop → List ℕ
-added c = let l = head c in
-    let g = entry l .args .g in
-    along (stepOf (g .thinning)) (numberOf g (l .loop .at .position)) (placesIn (word l) (l .loop .at .place) (min (c .lesser .result) (insideCount g - l .loop .at .position)))
+counted : (c : tie.After-lesser Inv-loop μ-loop) → let l = head c in c .lesser .result ≡ min (l .loop .left) (takes l)
+counted c = let l = head c in c .lesser .ensures ∙ ap (λ (n : ℕ). min (l .loop .left) (n - l .loop .at .place)) (steps (c .before .before))
 
-abbrev next : tie.After-lesser Inv-loop μ-loop → Cursor
-next c = let l = head c in movedIn (word l) (c .lesser .result) (l .loop .at)
+-- m steps that there are: where they lead, and what they list
+module _ (c : tie.Else1 Inv-loop μ-loop) (m : ℕ) (low : m ≤ c .before .before .loop .left) (few : m ≤ takes (c .before .before)) where
+  abbrev at-loop : tie.At-loop Inv-loop μ-loop
+  at-loop = c .before .before
 
-turn : (c : tie.After-lesser Inv-loop μ-loop) → let l = head c in
-    listedBy (entry l .args .g) (words-of l) (l .loop .left) (l .loop .at) ≡ added c ++ listedBy (entry l .args .g) (words-of l) (l .loop .left - c .lesser .result) (next c)
-turn c = let l = head c in
-    going-listed (l .loop .inv .0) (has (c .before .before .before .before)) (c .lesser .result) (few c .0) (few c .1) (entry l .args .g) (entry l .pre .0)
+  ends : at-loop .loop .at .place + m ≤ stepsIn (word at-loop)
+  ends = omega (arith, placed c)
+
+  goes : Going (words-of at-loop) (entry at-loop .args .c) (entry at-loop .args .budget) (next at-loop m) (at-loop .loop .left - m)
+  goes = going-on (at-loop .loop .inv .0) (has c) m low ends
+
+  turn : listedBy (entry at-loop .args .g) (words-of at-loop) (at-loop .loop .left) (at-loop .loop .at)
+      ≡ added at-loop m ++ listedBy (entry at-loop .args .g) (words-of at-loop) (at-loop .loop .left - m) (next at-loop m)
+  turn = going-listed (at-loop .loop .inv .0) (has c) m low ends (entry at-loop .args .g) (entry at-loop .pre .0)
 
 -- the step that is computed once
 stepped : (l : tie.At-loop Inv-loop μ-loop) → l .before .before .doubled .result ≡ stepOf (entry l .args .g .thinning)
@@ -90,14 +95,15 @@ inner c = let m = c .before .before in let l = head m in
     c .lesser2 .ensures ∙ ap (min (m .lesser .result)) (c .before .above .ensures ∙ ap (λ (n : ℕ). n - l .loop .at .position) (l .before .inside-count .ensures))
 
 -- the numbers that the call stores are those
-asked : (c : tie.After-number-at Inv-loop μ-loop) → let r = c .before .before in let m = r .before .before in let l = head m in
-    along (l .before .before .doubled .result) (c .number-at .result) (placesIn (m .before .before .before .word-at .result) (l .loop .at .place) (r .lesser2 .result)) ≡ added m
-asked c = let r = c .before .before in let m = r .before .before in let l = head m in
-    along-same (l .loop .at .place) (stepped l) (c .number-at .ensures) (m .before .before .before .word-at .ensures) (inner r)
+asked : (c : tie.After-number-at Inv-loop μ-loop) (k : ℕ) → let r = c .before in let m = r .before .before in let l = head m in m .lesser .result ≡ k
+    → along (l .before .before .doubled .result) (c .number-at .result) (placesIn (m .before .before .before .word-at .result) (l .loop .at .place) (r .lesser2 .result)) ≡ added l k
+asked c k e = let r = c .before in let m = r .before .before in let l = head m in
+    along-same (l .loop .at .place) (stepped l) (c .number-at .ensures) (m .before .before .before .word-at .ensures)
+    (inner r ∙ ap (λ (n : ℕ). min n (insideCount (entry l .args .g) - l .loop .at .position)) e)
 
-stored : (c : tie.After-store-places Inv-loop μ-loop) → let m = c .before .before .before .before .before in let l = head m in
-    Wrote (l .loop .out) (l .loop .n) (added m) (c .store-places .last .0) (c .store-places .result)
-stored c = rw (← asked (c .before)) (c .store-places .ensures)
+stored : (c : tie.After-store-places Inv-loop μ-loop) (k : ℕ) → let m = c .before .before .before .before .before in let l = head m in m .lesser .result ≡ k
+    → Wrote (l .loop .out) (l .loop .n) (added l k) (c .store-places .last .0) (c .store-places .result)
+stored c k e = rw (← asked (c .before .before) k e) (c .store-places .ensures)
 
 doubled-requires : tie.Need-doubled-requires Inv-loop μ-loop
 doubled-requires c κs = search needs
@@ -110,8 +116,8 @@ loop-holds c = let s = c .before .before .before .before in
     let a = s .args in
     (begin-going (s .pre .1 .0), start (omega (arith, s .pre .1 .1, listed-le (a .g) (words16 (a .bytes .now)) (a .budget) (a .c))))
 
-sub-t18 : tie.Need-sub-t18 Inv-loop μ-loop
-sub-t18 c = search needs
+sub-taken : tie.Need-sub-taken Inv-loop μ-loop
+sub-taken c = search needs
 
 same-length : tie.Need-same-length Inv-loop μ-loop
 same-length c = search needs
@@ -126,8 +132,8 @@ word-at-requires c κs = has c
 steps-in-requires : tie.Need-steps-in-requires Inv-loop μ-loop
 steps-in-requires c κs = search needs
 
-sub-lesser : tie.Need-sub-lesser Inv-loop μ-loop
-sub-lesser c = omega (arith, steps (c .before), placed (c .before .before .before))
+sub-takes : tie.Need-sub-takes Inv-loop μ-loop
+sub-takes c = omega (arith, steps (c .before), placed (c .before .before .before))
 
 lesser-requires : tie.Need-lesser-requires Inv-loop μ-loop
 lesser-requires c κs = search needs
@@ -144,36 +150,64 @@ number-at-requires c κs = search needs
 store-places-requires : tie.Need-store-places-requires Inv-loop μ-loop
 store-places-requires c κs = let r = c .before .before in
     let m = r .before .before in
+    let e = m .before .before .before .before in
     let l = head m in
+    let k : m .lesser .result ≡ min (l .loop .left) (takes l) = counted m in
     let w : m .before .before .before .word-at .result ≡ word l = m .before .before .before .word-at .ensures in
-    (rw w (omega (arith, inner r, few m .1)), rw (asked c) (room-for (added m) _ (turn m) (l .loop .inv .1)))
+    (rw w (omega (arith, inner r, k, placed e)), rw (asked (c .before) (m .lesser .result) refl) (room-for (added l (m .lesser .result)) _ (turn e (m .lesser .result) (omega arith) (omega arith)) (l .loop .inv .1)))
 
 moved-requires : tie.Need-moved-requires Inv-loop μ-loop
-moved-requires c κs = let m = c .before .before .before .before .before .before .before in
+moved-requires c κs = let m = c .before .before .before .before .before .before .before .before in
+    let e = m .before .before .before .before in
     let l = head m in
     let w : m .before .before .before .word-at .result ≡ word l = m .before .before .before .word-at .ensures in
-    (legal-position (words-of l) (l .loop .at) (l .loop .inv .0 .stands), rw w (few m .1), omega (arith, has (m .before .before .before .before), length-pairUp 256 (entry l .args .bytes .now)))
-
-sub-left : tie.Need-sub-left Inv-loop μ-loop
-sub-left c = few (c .before .before .before .before .before .before .before .before) .0
-
-loop-less : tie.Need-loop-less Inv-loop μ-loop
-loop-less c = let m = c .before .before .before .before .before .before .before .before in
-    omega (arith, counted m, placed (m .before .before .before .before), m .before .before .before .before .before .loop-test .taken, few m .0)
-
-loop-again : tie.Need-loop-again Inv-loop μ-loop
-loop-again c = let w = c .before .before .before in
-    let m = w .before .before .before .before .before in
-    let l = head m in
-    let e : c .moved .result ≡ next m = c .moved .ensures ∙ ap (λ (v : ℕ). movedIn v (m .lesser .result) (l .loop .at)) (m .before .before .before .word-at .ensures) in
-    rw e
-    (going-on (l .loop .inv .0) (has (m .before .before .before .before)) (m .lesser .result) (few m .0) (few m .1), wrote (turn m) (stored w) (l .loop .inv .1))
+    (legal-position (words-of l) (l .loop .at) (l .loop .inv .0 .stands), rw w (omega (arith, c .if2 .taken, steps (m .before .before), placed e)), omega (arith, has e, length-pairUp 256 (entry l .args .bytes .now)))
 
 same-length-2 : tie.Need-same-length-2 Inv-loop μ-loop
 same-length-2 c = search needs
 
 returns-2 : tie.Need-returns-2 Inv-loop μ-loop
-returns-2 c = let l = c .before in gone-done (l .loop .inv .0) (entry l .args .g) (l .loop .inv .1) (c .loop-test .left)
+returns-2 c = let t = c .before in
+    let p = t .before .before .before in
+    let m = p .before .before .before .before .before in
+    let e = m .before .before .before .before in
+    let l = head m in
+    let f : l .loop .left ≤ takes l = omega (arith, t .if2 .taken, steps (m .before .before)) in
+    let k : m .lesser .result ≡ l .loop .left = omega (arith, counted m, f) in
+    let n : c .moved .result ≡ next l (l .loop .left) = c .moved .ensures ∙ ap (λ (v : ℕ). movedIn v (l .loop .left) (l .loop .at)) (m .before .before .before .word-at .ensures) in
+    rw n
+    (gone-done (goes e (l .loop .left) (omega arith) f) (entry l .args .g) (wrote (turn e (l .loop .left) (omega arith) f) (stored p (l .loop .left) k) (l .loop .inv .1)) (omega arith))
+
+moved-requires-2 : tie.Need-moved-requires-2 Inv-loop μ-loop
+moved-requires-2 c κs = let m = c .before .before .before .before .before .before .before .before in
+    let e = m .before .before .before .before in
+    let l = head m in
+    let w : m .before .before .before .word-at .result ≡ word l = m .before .before .before .word-at .ensures in
+    (legal-position (words-of l) (l .loop .at) (l .loop .inv .0 .stands), rw w (omega (arith, steps (m .before .before), placed e)), omega (arith, has e, length-pairUp 256 (entry l .args .bytes .now)))
+
+loop-less : tie.Need-loop-less Inv-loop μ-loop
+loop-less c = let m = c .before .before .before .before .before .before .before .before .before in
+    let e = m .before .before .before .before in
+    omega (arith, placed e, steps (m .before .before), c .before .if2 .left)
+
+loop-again : tie.Need-loop-again Inv-loop μ-loop
+loop-again c = let t = c .before in
+    let p = t .before .before .before in
+    let m = p .before .before .before .before .before in
+    let e = m .before .before .before .before in
+    let l = head m in
+    let a : ℕ = m .before .before .steps-in .result - l .loop .at .place in
+    let q : a ≡ takes l = ap (λ (n : ℕ). n - l .loop .at .place) (steps (m .before .before)) in
+    let k : m .lesser .result ≡ a = omega (arith, counted m, t .if2 .left, q) in
+    let n : c .moved2 .result ≡ next l a = c .moved2 .ensures ∙ ap (λ (v : ℕ). movedIn v a (l .loop .at)) (m .before .before .before .word-at .ensures) in
+    rw n
+    (goes e a (t .if2 .left) (omega arith), wrote (turn e a (t .if2 .left) (omega arith)) (stored p a k) (l .loop .inv .1))
+
+same-length-3 : tie.Need-same-length-3 Inv-loop μ-loop
+same-length-3 c = search needs
+
+returns-3 : tie.Need-returns-3 Inv-loop μ-loop
+returns-3 c = let l = c .before in gone-done (l .loop .inv .0) (entry l .args .g) (l .loop .inv .1) (c .loop-test .left)
 
 pub go-spec : {M : Type 1} → statement M
 go-spec =
@@ -184,20 +218,22 @@ go-spec =
     doubled-requires
     inside-count-requires
     loop-holds
-    sub-t18
+    sub-taken
     same-length
     returns
     word-at-requires
     steps-in-requires
-    sub-lesser
+    sub-takes
     lesser-requires
     above-requires
     lesser-requires-2
     number-at-requires
     store-places-requires
     moved-requires
-    sub-left
+    same-length-2
+    returns-2
+    moved-requires-2
     loop-less
     loop-again
-    same-length-2
-    returns-2)
+    same-length-3
+    returns-3)
