@@ -1,0 +1,173 @@
+-- `packet_receipt_time::pairs` meets its contract.
+use Prim.Native.Nat.{ℕ, _*_, _<_, _≤_, min}
+use mathlib.Core.Path.{_≡_, refl, sym, ap, _∙_}
+use mathlib.Core.List.{List}
+use native.Mathlib.Omega.{arith}
+use lib.ListN.{length, drop, length-drop}
+use Rattle.refusals.specs.Answers.{shown}
+use Rattle.wire.specs.Bytes.{words32}
+use Rattle.wire.specs.Block.{fieldsAt}
+use Rattle.standard.specs.Range.{rangeOf, numberOf}
+use Rattle.readings.specs.Questions.{pairsShown}
+use Rattle.utils.proofs.BytesLaws.{length-words32, Bytes, be16-lt}
+use Rattle.rle.specs.Inside.{stepOf}
+use Rattle.rle.specs.Failing.{never}
+use Rattle.packet_receipt_time.specs.Pairs.{listable, stepped}
+use Rattle.packet_receipt_time.proofs.PairsLaws.{length-stepped}
+use Rattle.packet_receipt_time.proofs.PairsAnswers.{pairs-fine, pairs-unfit, pairs-listed, pairs-full, pairs-refused, count-found, first-found, step-found}
+use borrow.Author.Needs.{needs}
+use Rattle.packet_receipt_time.proofs.pairs.Statement.{statement}
+use Rattle.packet_receipt_time.proofs.pairs.Tie as tie
+use Rattle.packet_receipt_time.proofs.pairs.Reads as reads
+use Rattle.packet_receipt_time.proofs.pairs.Lts as lts
+use Rattle.block.proofs.check.Reads as check-reads
+use Rattle.block.proofs.fields_at.Reads as fields-at-reads
+use Rattle.packet_receipt_time.proofs.lesser.Reads as lesser-reads
+use Rattle.packet_receipt_time.proofs.listable_of.Reads as listable-of-reads
+use Rattle.packet_receipt_time.proofs.store.Reads as store-reads
+use Rattle.packet_receipt_time.proofs.times_count.Reads as times-count-reads
+use Rattle.rle.proofs.number_at.Reads as number-at-reads
+use Rattle.rle.proofs.range_of.Reads as range-of-reads
+use Rattle.utils.proofs.doubled.Reads as doubled-reads
+
+abbrev v-of : tie.After-lesser → List ℕ
+v-of c = c .before .before .before .before .before .before .before .before .before .before .args .v .now
+
+abbrev times-of : tie.After-lesser → List ℕ
+times-of c = words32 (drop 12 (v-of c))
+
+-- the count that was found
+counted : (c : tie.After-lesser) → let f = c .before .before .before in
+    let h = f .before .before .before in
+    c .lesser .result ≡ min (listable (h .before .before .before .before .args .r) (fieldsAt (v-of c))) (length (times-of c))
+counted c =
+    let k = c .before in
+    let l = k .before in
+    let f = l .before in
+    let a = f .before .before .before .before .before .before .before .args in
+    count-found (a .r) (f .fields-at .result) (a .v .now) (f .fields-at .ensures) (c .lesser .result) (l .listable-of .result) (k .times-count .result) (c .lesser .ensures) (l .listable-of .ensures) (k .times-count .ensures)
+
+-- what is shown, by a first number and a step
+asked : (c : tie.After-lesser) (first step : ℕ) → first ≡ numberOf (rangeOf (fieldsAt (v-of c))) 0 → step ≡ stepOf (fieldsAt (v-of c) .thinning)
+    → let h = c .before .before .before .before .before .before in
+    pairsShown (h .before .before .before .before .args .r) (v-of c) ≡ shown (stepped step first (c .lesser .result) (times-of c))
+asked c first step p q =
+    let f = c .before .before .before in
+    let t = f .before in
+    let h = t .before .before in
+    let b = h .before .before .before .before in
+    let bytes : Bytes (v-of c) = λ i. h .before .before .before .shared-slice-known .given i .fits in
+    let few : length (times-of c) ≤ never = omega (arith, length-words32 (drop 12 (v-of c)), length-drop 12 (v-of c), b .good) in
+    pairs-fine (b .args .r) (v-of c) (sym (h .check .ensures) ∙ t .enum-told .given .1) (be16-lt (v-of c) 8 bytes) (be16-lt (v-of c) 10 bytes) few first step (c .lesser .result) p q (counted c)
+
+long : (c : tie.After-lesser) (first step : ℕ) → c .lesser .result ≡ length (stepped step first (c .lesser .result) (times-of c))
+long c first step = omega (arith, counted c, length-stepped step first (c .lesser .result) (times-of c))
+
+-- src/lib.rt:72:11
+check-requires : tie.Need-check-requires
+check-requires c κs = search needs
+
+-- src/lib.rt:74:17
+enum-told : tie.Need-enum-told
+enum-told c = search needs
+
+-- src/lib.rt:74:17
+fields-at-requires : tie.Need-fields-at-requires
+fields-at-requires c κs = search needs
+
+-- src/lib.rt:75:28
+listable-of-requires : tie.Need-listable-of-requires
+listable-of-requires c κs = search needs
+
+-- src/lib.rt:75:47
+times-count-requires : tie.Need-times-count-requires
+times-count-requires c κs = search needs
+
+-- src/lib.rt:75:17
+lesser-requires : tie.Need-lesser-requires
+lesser-requires c κs = search needs
+
+-- src/lib.rt:76:17
+lesser-requires-2 : tie.Need-lesser-requires-2
+lesser-requires-2 c κs = search needs
+
+-- src/lib.rt:78:17
+returns : tie.Need-returns
+returns c = let m = c .before in
+    let n = m .before in
+    let a = n .before .before .before .before .before .before .before .before .before .before .args in
+    let first = numberOf (rangeOf (fieldsAt (v-of n))) 0 in
+    let step = stepOf (fieldsAt (v-of n) .thinning) in
+    pairs-full _ (a .numbers .now) (a .times .now) (stepped step first (n .lesser .result) (times-of n)) (n .lesser .result) (m .lesser2 .result) (asked n first step refl refl) (long n first step) (m .lesser2 .ensures) (c .if1 .taken)
+
+-- src/lib.rt:80:40
+range-of-requires : tie.Need-range-of-requires
+range-of-requires c κs = search needs
+
+-- src/lib.rt:80:17
+number-at-requires : tie.Need-number-at-requires
+number-at-requires c κs = search needs
+
+-- src/lib.rt:81:17
+doubled-requires : tie.Need-doubled-requires
+doubled-requires c κs = search needs
+
+-- src/lib.rt:82:13
+store-requires : tie.Need-store-requires
+store-requires c κs = search needs
+
+-- src/lib.rt:85:24
+enum-known-x : tie.Need-enum-known-x
+enum-known-x c = search needs
+
+-- src/lib.rt:69:1
+same-length : tie.Need-same-length
+same-length c = search needs
+
+-- src/lib.rt:69:1
+same-length-2 : tie.Need-same-length-2
+same-length-2 c = search needs
+
+-- src/lib.rt:69:1
+returns-2 : tie.Need-returns-2
+returns-2 c = let st = c .before .before .before .before in
+    let d = st .before .before .before in
+    let x = d .before in
+    let g = x .before in
+    let e = g .before in
+    let m = e .before in
+    let n = m .before in
+    let f = n .before .before .before in
+    let a = n .before .before .before .before .before .before .before .before .before .before .args in
+    let first = first-found (a .r) (f .fields-at .result) (a .v .now) (f .fields-at .ensures) (x .number-at .result) (g .range-of .result) (x .number-at .ensures) (g .range-of .ensures) in
+    let step = step-found (a .r) (f .fields-at .result) (a .v .now) (f .fields-at .ensures) (d .doubled .result) (d .doubled .ensures) in
+    pairs-listed _ (a .numbers .now) (a .times .now) _ (n .lesser .result) _ _ (asked n (x .number-at .result) (d .doubled .result) first step) (long n (x .number-at .result) (d .doubled .result)) (omega (arith, e .if1 .left, m .lesser2 .ensures)) (st .store .ensures)
+
+-- src/lib.rt:69:1
+returns-3 : tie.Need-returns-3
+returns-3 c = let x = c .before in
+    let h = x .before .before in
+    let a = h .before .before .before .before .args in
+    pairs-refused _ (a .numbers .now) (a .times .now) (x .x .given .0 .0) (pairs-unfit (a .r) (a .v .now) (x .x .given .0 .0) (sym (h .check .ensures) ∙ x .x .given .1))
+
+pub pairs-spec : {M : Type 1} → statement M
+pairs-spec =
+    tie.close
+    (tie.spec
+    check-requires
+    enum-told
+    fields-at-requires
+    listable-of-requires
+    times-count-requires
+    lesser-requires
+    lesser-requires-2
+    returns
+    range-of-requires
+    number-at-requires
+    doubled-requires
+    store-requires
+    enum-known-x
+    same-length
+    same-length-2
+    returns-2
+    returns-3)
