@@ -195,6 +195,20 @@ pub extern "C" fn xr_words(r: u8, packet: &[u8], k: usize, t: u8, out: &mut [u16
     answer(numbers::words_in(reading(r), packet, k, t, out))
 }
 
+// The pairs of block k, of type 3, into two lists side by side: 1 to 6, 9, 10, 7, 11.
+#[no_mangle]
+pub extern "C" fn xr_pairs(
+    r: u8,
+    packet: &[u8],
+    k: usize,
+    numbers: &mut [u16],
+    times: &mut [u32],
+) -> Flat
+    ensures { λ a. ⌜ FlatPairs (pairsAsked (readingOf r) (now (packet .entry)) k) (now (numbers .entry)) (now (times .entry)) a (now (numbers .exit)) (now (times .exit)) ⌝ }
+{
+    answer(packet_receipt_time::pairs_in(reading(r), packet, k, numbers, times))
+}
+
 // The entries of block k, of type 5: 1 to 6, 9, 10, 7, 11.
 #[no_mangle]
 pub extern "C" fn xr_entries(
