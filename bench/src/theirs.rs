@@ -171,7 +171,7 @@ pub fn entries(
         for e in l.block_iter() {
             ssrcs.push(e.ssrc());
             lasts.push(e.last_receiver_report());
-            delays.push(e.delay_since_last_receiver_report_ntp_timestamp());
+            delays.push(e.delay_since_last_receiver_report_timestamp());
         }
         Ok(ssrcs.len())
     })

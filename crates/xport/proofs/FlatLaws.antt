@@ -5,8 +5,10 @@ use mathlib.Core.List.{List}
 use lib.Dec.{eqb}
 use lib.ListN.{length}
 use borrow.Author.Tests.{eq-eqb, ne-eqb}
+use Rattle.refusals.specs.declared.Refusal.{Refusal}
 use Rattle.refusals.specs.declared.Answer.{Answer}
-use Rattle.refusals.specs.Answers.{Or, Listed}
+use Rattle.refusals.specs.Answers.{Or, refused, Listed}
+use Rattle.base.proofs.Answering.{turned-away}
 use Rattle.wire.specs.declared.Reading.{Reading}
 use Rattle.wire.specs.declared.Reading.the-variants.{Standard, Crate}
 use Rattle.standard.specs.declared.Chunk.{Chunk}
@@ -15,7 +17,7 @@ use Rattle.standard.specs.declared.Receipt.{Receipt}
 use Rattle.standard.specs.declared.Echo.{Echo}
 use Rattle.readings.specs.Questions.{ListedPairs, ListedEntries}
 use Rattle.xport.specs.declared.Flat.{Flat}
-use Rattle.xport.specs.Flat.{readingOf, kindOf, flatOf, FlatListed, FlatPairs, FlatEntries}
+use Rattle.xport.specs.Flat.{readingOf, kindOf, flatRefusal, flatOf, FlatListed, FlatPairs, FlatEntries}
 
 pub reading-standard : (r : ℕ) → r ≡ 0 → Standard ≡ readingOf r
 unfolding readingOf
@@ -54,3 +56,9 @@ flat-pairs e l h = rw (← e) (record { answer = h ∙ ap flatOf (l .answer); nu
 pub flat-entries : {whole asked : Or (List Echo)} {ss ls ds ss′ ls′ ds′ : List ℕ} {a : Answer} {f : Flat} → asked ≡ whole
     → ListedEntries asked ss ls ds a ss′ ls′ ds′ → f ≡ flatOf a → FlatEntries whole ss ls ds f ss′ ls′ ds′
 flat-entries e l h = rw (← e) (record { answer = h ∙ ap flatOf (l .answer); ssrcs = l .ssrcs; lasts = l .lasts; delays = l .delays })
+
+-- a listing call that is turned away before it lists
+pub flat-turned-away : {whole asked : Or (List ℕ)} {out : List ℕ} {f : Flat} (x : Refusal) → asked ≡ whole → asked ≡ refused x → f ≡ flatRefusal x
+    → FlatListed whole out f out
+unfolding flatOf
+flat-turned-away {whole} {asked} {out} {f} x e w h = flat-listed e (turned-away asked out x w) h
