@@ -2,9 +2,9 @@
 --     firstFail    the first place whose number fails
 --     stopAt       the place of a word's first one whose number fails
 use Prim.Native.Nat.{ℕ, suc, _+_, _*_, _-_, _%_, _^_}
-use mathlib.Core.Bool.{Bool, cond, not, _&&_}
+use mathlib.Core.Bool.{Bool, false, cond, not, _&&_}
 use mathlib.Core.List.{List, [], _∷_}
-use lib.Dec.{ltb, eqb}
+use lib.Dec.{ltb, leb, eqb}
 use Rattle.standard.specs.Chunks.{valuesIn}
 use Rattle.standard.specs.Range.{circle}
 use Rattle.old_crate.specs.Sequence.{passes, sequenceOf}
@@ -17,6 +17,10 @@ gapOf start end = (end + 65535 - start) % circle + 1
 -- as far from the start as this, and further, numbers pass again
 abbrev pub againOf : ℕ → ℕ → ℕ
 againOf start end = cond (ltb start end) (circle - start) circle
+
+-- a word that covers so many places has none as far as end
+unfoldable pub isNear : ℕ → ℕ → ℕ → Bool
+isNear covered t gap = cond (leb 16 t) false (leb (covered * 2 ^ t) gap)
 
 -- no place fails: larger than any place
 abbrev pub never : ℕ

@@ -112,8 +112,7 @@ pub fn first_fail(start: u16, end: u16, thinning: u8) -> usize
     if 16 <= thinning {
         return NEVER;
     }
-    let gap = (end as usize + 65535 - start as usize) % 65536 + 1;
-    let q = word::ceil_shift(gap, thinning);
+    let q = word::ceil_shift(word::gap(start, end), thinning);
     if utils::times_two_to(q, thinning) < again_from(start, end) {
         q
     } else {

@@ -6,7 +6,7 @@ ghost use Rattle.standard.specs.Chunks.{coversOf, valueOf, valuesIn};
 ghost use Rattle.base.proofs.Stores.{Wrote};
 ghost use Rattle.rle.specs.Along.{progression, along};
 ghost use Rattle.rle.specs.Inside.{ceilDiv};
-ghost use Rattle.rle.specs.Failing.{firstFail, stopAt};
+ghost use Rattle.rle.specs.Failing.{gapOf, isNear, firstFail, stopAt};
 
 pub(crate) fn least(a: usize, b: usize) -> usize
     ensures { λ r. ⌜ r ≡ min a b ⌝ }
@@ -115,12 +115,33 @@ fn stop_in_vector(w: u16, start: u16, end: u16, thinning: u8, from: usize) -> us
     15
 }
 
+// How far end lies beyond the start: 1 .. 65,536.
+pub(crate) fn gap(start: u16, end: u16) -> usize
+    ensures { λ r. ⌜ r ≡ gapOf start end ⌝ }
+{
+    (end as usize + 65535 - start as usize) % 65536 + 1
+}
+
+// Whether all places of a word are nearer than end, so that none fails: what most words are, told by one shift.
+fn is_near(covered: usize, thinning: u8, gap: usize) -> bool
+    requires { ⌜ covered < 16384 ⌝ }
+    ensures { λ r. ⌜ r ≡ isNear covered thinning gap ⌝ }
+{
+    if 16 <= thinning {
+        return false;
+    }
+    utils::times_two_to(covered, thinning) <= gap
+}
+
 // The place of a word's first one whose number fails the crate's test; how many places it has where none does.
 pub(crate) fn stop_at(w: u16, start: u16, end: u16, thinning: u8) -> usize
     ensures { λ r. ⌜ r ≡ stopAt start end thinning w ⌝ }
 {
     let covered = chunk::covers(w) as usize;
     if w < 0x4000 {
+        return covered;
+    }
+    if is_near(covered, thinning, gap(start, end)) {
         return covered;
     }
     let first = crate::first_fail(start, end, thinning);
