@@ -11,3 +11,4 @@ pub mod FailLaws
 pub mod CrateLaws
 pub mod StopLaws
 pub mod CrateTurn
+pub mod MostLaws

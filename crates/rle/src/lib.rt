@@ -135,7 +135,7 @@ pub fn fill_crate(bytes: &[u8], end: u16, thinning: u8, begin: u16, out: &mut [u
 {
     let size = word::least(LONGEST, bytes.len());
     let part = &bytes[..size];
-    let need = list::tally_crate(part, end, thinning, begin);
+    let need = list::needed_crate(part, end, thinning, begin, out.len());
     if need <= out.len() {
         Answer::Done(list::list_crate(part, end, thinning, begin, out))
     } else {

@@ -6,6 +6,7 @@ ghost use Rattle.wire.specs.Bytes.{words16};
 ghost use Rattle.standard.specs.Standard.{numbersOf};
 ghost use Rattle.old_crate.specs.Crate.{crateNumbersFrom};
 ghost use Rattle.rle.specs.Along.{Filled};
+ghost use Rattle.rle.specs.Most.{onesCount, Decides};
 use standard::Range;
 
 // Lists the numbers into a slice that has room for them. Port of: rle.rs RleSequenceIter::next; differs: the standard reading.
@@ -30,6 +31,32 @@ pub(crate) fn list_standard(bytes: &[u8], g: Range, out: &mut [u16]) -> usize
         at += 2;
     }
     n
+}
+
+// How many ones the words have. One pass, and no test.
+fn tally_ones(bytes: &[u8]) -> usize
+    requires { ⌜ length (now bytes) ≤ 262144 ⌝ }
+    ensures { λ r. ⌜ r ≡ onesCount (words16 (now (bytes .entry))) ⌝ }
+{
+    let mut at: usize = 0;
+    let mut n: usize = 0;
+    while at + 1 < bytes.len() {
+        n += chunk::ones_before(utils::pair(bytes[at], bytes[at + 1]), 16384);
+        at += 2;
+    }
+    n
+}
+
+// Whether the crate's numbers have room: where all ones have, no test is made; else the numbers themselves are counted.
+pub(crate) fn needed_crate(bytes: &[u8], end: u16, thinning: u8, begin: u16, room: usize) -> usize
+    requires { ⌜ length (now bytes) ≤ 262144 ⌝ }
+    ensures { λ r. ⌜ Decides (crateNumbersFrom end thinning begin (words16 (now (bytes .entry)))) room r ⌝ }
+{
+    let ones = tally_ones(bytes);
+    if ones <= room {
+        return ones;
+    }
+    tally_crate(bytes, end, thinning, begin)
 }
 
 // The crate's numbers: how many. Port of: rle.rs RleSequenceIter::next; differs: counted by words.
