@@ -82,6 +82,12 @@ pub fn runs(n: usize, length: u16, gap: u16) -> Vec<u16> {
         .collect()
 }
 
+/// Runs of ones of 1 to 200, in no order.
+pub fn some_runs(n: usize) -> Vec<u16> {
+    let mut seed = Seed(0x853C49E6748FEA9B);
+    (0..n).map(|_| 0x4001 + seed.below(200) as u16).collect()
+}
+
 /// Vectors of random bits.
 pub fn vectors(n: usize) -> Vec<u16> {
     let mut seed = Seed(0x2545F4914F6CDD1D);
