@@ -12,3 +12,4 @@ pub mod CrateLaws
 pub mod StopLaws
 pub mod CrateTurn
 pub mod MostLaws
+pub mod PlacedLaws

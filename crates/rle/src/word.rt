@@ -51,21 +51,44 @@ fn store_run(out: &mut [u16], at: usize, count: usize, first: u16, step: u16) ->
     n
 }
 
-// Stores the numbers of a vector's ones, up to a place.
+// The highest bit that is one.
+fn top_bit(b: u32) -> u32
+    requires { ⌜ (0 < b) × (b < 32768) ⌝ }
+    ensures { λ r. ⌜ (2 ^ r ≤ b) × (b < 2 ^ (r + 1)) ⌝ }
+    ensures { λ r. ⌜ r ≤ 14 ⌝ }
+{
+    31 - u32::leading_zeros(b)
+}
+
+// The bits without one of them.
+fn without(b: u32, j: u32) -> u32
+    requires { ⌜ (j ≤ 14) × (2 ^ j ≤ b) ⌝ }
+    ensures { λ r. ⌜ r ≡ b - 2 ^ j ⌝ }
+{
+    b - (1 << j)
+}
+
+// The number q steps on.
+fn steps_on(first: u16, step: u16, q: u32) -> u16
+    requires { ⌜ q ≤ 15 ⌝ }
+    ensures { λ r. ⌜ r ≡ (first + q * step) % 65536 ⌝ }
+{
+    ((first as u32 + q * (step as u32)) % 65536) as u16
+}
+
+// Stores the numbers of a vector's ones, up to a place, from the highest bit down: a turn for each one, and none for zeros.
 fn store_vector(out: &mut [u16], at: usize, w: u16, room: usize, first: u16, step: u16) -> usize
     requires { ⌜ (32768 ≤ w) × (room ≤ 15) × (at + length (along step first (take room (valuesIn w))) ≤ length (now out)) ⌝ }
     ensures { λ r. ⌜ Wrote (now (out .entry)) at (along step first (take room (valuesIn w))) (now (out .exit)) r ⌝ }
 {
-    let mut q: usize = 0;
+    let places = room as u32;
+    let mut b = (chunk::vector_bits(w) as u32) >> (15 - places);
     let mut n = at;
-    let mut x = first;
-    while q < room {
-        if bit_at(w, q) == 1 {
-            out[n] = x;
-            n += 1;
-        }
-        x = std::num::wrapping_add_u16(x, step);
-        q += 1;
+    while b != 0 {
+        let j = top_bit(b);
+        out[n] = steps_on(first, step, places - 1 - j);
+        b = without(b, j);
+        n += 1;
     }
     n
 }

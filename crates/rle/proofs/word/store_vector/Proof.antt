@@ -1,100 +1,132 @@
-use Prim.Native.Nat.{_+_, _-_, _≤_, _<_}
-use mathlib.Core.Logic.{⊎-elim}
+use lib.Pow.{pow-pos, pow-mono}
+use Prim.Native.Nat.{ℕ, suc, _+_, _*_, _-_, _%_, _^_, _≤_, _<_}
 use mathlib.Core.Path.{_≡_, refl, sym, ap, _∙_}
-use native.Mathlib.Omega.{arith}
 use mathlib.Core.List.{_∷_}
-use borrow.Author.Tests.{le-ltb}
+use native.Mathlib.Omega.{arith}
 use borrow.Author.Needs.{needs}
 use lib.ListN.{length, take}
-use Rattle.standard.specs.Chunks.{coversOf, valueOf, valuesIn}
-use Rattle.rle.specs.Along.{along, onward}
-use Rattle.rle.proofs.WordLaws.{alongFrom, alongFrom-start, alongFrom-end, alongFrom-one, alongFrom-zero}
+use Rattle.standard.specs.Chunks.{valuesIn}
+use Rattle.rle.specs.Along.{along}
+use Rattle.rle.proofs.PlacedLaws.{placed, placed-none, placed-top, top-within, vector-placed, placed-bits}
 use Rattle.rle.proofs.Storing.{Storing, start, skip, moved, within, put, done}
 use Rattle.rle.proofs.word.store_vector.Statement.{statement}
 use Rattle.rle.proofs.word.store_vector.Tie as tie
 use Rattle.rle.proofs.word.store_vector.Reads as reads
 use Rattle.rle.proofs.word.store_vector.Lts as lts
-use Rattle.rle.proofs.word.bit_at.Reads as bit-at-reads
-use Rattle.std.proofs.num.wrapping_add_u16.Reads as wrapping-add-u16-reads
+use Rattle.chunk.proofs.vector_bits.Reads as vector-bits-reads
+use Rattle.rle.proofs.word.steps_on.Reads as steps-on-reads
+use Rattle.rle.proofs.word.top_bit.Reads as top-bit-reads
+use Rattle.rle.proofs.word.without.Reads as without-reads
 
 abbrev Inv-loop : tie.InvT-loop
-Inv-loop out₀ at w room first step q₀ n₀ x₀ out q n x =
-    (q ≤ room) × (n ≤ length out) × Storing out₀ at (along step first (take room (valuesIn w))) out (alongFrom step w room q x) n
+Inv-loop out₀ at w room first step places b₀ n₀ out b n =
+    (b < 2 ^ room) × (n ≤ length out) × Storing out₀ at (along step first (take room (valuesIn w))) out (placed step first room b) n
 
 abbrev μ-loop : tie.MeasureT-loop
-μ-loop out₀ at w room first step q₀ n₀ x₀ out q n x = room - q
+μ-loop out₀ at w room first step places b₀ n₀ out b n = b
 
--- the place at hand is one of the word's 15
-has : (c : tie.In-loop Inv-loop μ-loop) → let l = c .before in l .loop .q < coversOf (l .before .before .args .w)
-has c = let l = c .before in
-    let s = l .before .before in
-    let e : coversOf (s .args .w) ≡ 15 = rw (le-ltb _ _ (s .pre .0)) in
-    omega (arith, e, c .loop-test .taken, s .pre .1)
+-- the loop's head and the function's entry, from where the highest bit is known
+abbrev head : tie.After-top-bit Inv-loop μ-loop → tie.At-loop Inv-loop μ-loop
+head c = c .before .before
 
--- its value is one: its number is the next
-one : (c : tie.Then1 Inv-loop μ-loop) → let l = c .before .before .before in let a = l .before .before .args in
-    alongFrom (a .step) (a .w) (a .room) (l .loop .q) (l .loop .x) ≡ l .loop .x ∷ alongFrom (a .step) (a .w) (a .room) (l .loop .q + 1) (onward (a .step) (l .loop .x))
-one c = let l = c .before .before .before in let a = l .before .before .args in
-    alongFrom-one (a .step) (a .w) (a .room) (l .loop .q) (l .loop .x) (c .before .before .loop-test .taken) (has (c .before .before)) (sym (c .before .bit-at .ensures) ∙ c .if1 .taken)
+abbrev entry : tie.At-loop Inv-loop μ-loop → tie.Start Inv-loop μ-loop
+entry l = l .before .before .before
 
--- it is not one: nothing is stored
-zero : (c : tie.Else1 Inv-loop μ-loop) → let l = c .before .before .before in let a = l .before .before .args in
-    alongFrom (a .step) (a .w) (a .room) (l .loop .q) (l .loop .x) ≡ alongFrom (a .step) (a .w) (a .room) (l .loop .q + 1) (onward (a .step) (l .loop .x))
-zero c = let l = c .before .before .before in let a = l .before .before .args in
-    alongFrom-zero (a .step) (a .w) (a .room) (l .loop .q) (l .loop .x) (c .before .before .loop-test .taken) (has (c .before .before)) (λ v. c .if1 .left (c .before .bit-at .ensures ∙ v))
+-- it is one of the places
+inside : (c : tie.After-top-bit Inv-loop μ-loop) → c .top-bit .result < entry (head c) .args .room
+inside c = let l = head c in let j = c .top-bit .result in
+    let k : suc j ≡ j + 1 = omega arith in
+    top-within 0 j (l .loop .b) (c .top-bit .ensures .0 .0) (rw k (c .top-bit .ensures .0 .1)) (entry l .args .room) (l .loop .inv .0)
 
--- src/lib.rt:105:5
+-- its number is the next
+next : (c : tie.After-steps-on Inv-loop μ-loop) → let l = head (c .before) in let a = entry l .args in
+    placed (a .step) (a .first) (a .room) (l .loop .b) ≡ c .steps-on .result ∷ placed (a .step) (a .first) (a .room) (l .loop .b - 2 ^ c .before .top-bit .result)
+next c = let l = head (c .before) in let a = entry l .args in let j = c .before .top-bit .result in
+    let k : suc j ≡ j + 1 = omega arith in
+    placed-top (a .step) j (l .loop .b) (c .before .top-bit .ensures .0 .0) (rw k (c .before .top-bit .ensures .0 .1)) (a .room) (a .first) (omega arith) (inside (c .before))
+    ∙ ap (λ (x : ℕ). x ∷ placed (a .step) (a .first) (a .room) (l .loop .b - 2 ^ j)) (sym (c .steps-on .ensures))
+
+-- src/word.rt:84:18
+cast-places : tie.Need-cast-places Inv-loop μ-loop
+cast-places c = search needs
+
+-- src/word.rt:85:18
+vector-bits-requires : tie.Need-vector-bits-requires Inv-loop μ-loop
+vector-bits-requires c κs = search needs
+
+-- src/word.rt:85:18
+cast-b : tie.Need-cast-b Inv-loop μ-loop
+cast-b c = search needs
+
+-- src/word.rt:85:52
+sub-b : tie.Need-sub-b Inv-loop μ-loop
+sub-b c = search needs
+
+-- src/word.rt:85:17
+shr-b : tie.Need-shr-b Inv-loop μ-loop
+shr-b c = search needs
+
+-- src/word.rt:87:5
 loop-holds : tie.Need-loop-holds Inv-loop μ-loop
-loop-holds c = let a = c .before .args in
-    (omega arith, omega (arith, c .before .pre .2), skip (alongFrom-start (a .step) (a .w) (a .room) (a .first)) (start (c .before .pre .2)))
+loop-holds c = let s = c .before .before in
+    let a = s .args in
+    let e = vector-placed (a .step) (a .first) (a .room) (a .w) (s .pre .0) (s .pre .1) in
+    rw (c .vector-bits .ensures) (placed-bits (a .room) (a .w) (s .pre .1), omega (arith, s .pre .2), skip e (start (s .pre .2)))
 
--- src/lib.rt:106:12
-bit-at-requires : tie.Need-bit-at-requires Inv-loop μ-loop
-bit-at-requires c κs = search needs
+-- src/word.rt:88:13
+top-bit-requires : tie.Need-top-bit-requires Inv-loop μ-loop
+top-bit-requires c κs = let l = c .before in
+    let s = entry l in
+    let up : 2 ^ (s .args .room) ≤ 2 ^ 15 = pow-mono (s .pre .1) in
+    (omega (arith, c .loop-test .taken), omega (arith, up, l .loop .inv .0))
 
--- src/lib.rt:107:13
+-- src/word.rt:89:40
+sub-steps-on : tie.Need-sub-steps-on Inv-loop μ-loop
+sub-steps-on c = omega (arith, inside c)
+
+-- src/word.rt:89:40
+sub-steps-on-2 : tie.Need-sub-steps-on-2 Inv-loop μ-loop
+sub-steps-on-2 c = omega (arith, inside c)
+
+-- src/word.rt:89:18
+steps-on-requires : tie.Need-steps-on-requires Inv-loop μ-loop
+steps-on-requires c κs = omega (arith, entry (head c) .pre .1)
+
+-- src/word.rt:89:9
 mul-out : tie.Need-mul-out Inv-loop μ-loop
 mul-out c = search needs
 
--- src/lib.rt:107:13
+-- src/word.rt:89:9
 slice-write-out : tie.Need-slice-write-out Inv-loop μ-loop
-slice-write-out c = within (one c) (c .before .before .before .loop .inv .2)
+slice-write-out c = within (next c) (head (c .before) .loop .inv .2)
 
--- src/lib.rt:108:13
+-- src/word.rt:90:9
+without-requires : tie.Need-without-requires Inv-loop μ-loop
+without-requires c κs = search needs
+
+-- src/word.rt:91:9
 add-n : tie.Need-add-n Inv-loop μ-loop
 add-n c = search needs
 
--- src/lib.rt:110:9
-wrapping-add-u16-requires : tie.Need-wrapping-add-u16-requires Inv-loop μ-loop
-wrapping-add-u16-requires c κs = search needs
-
--- src/lib.rt:111:9
-add-q : tie.Need-add-q Inv-loop μ-loop
-add-q c = search needs
-
--- src/lib.rt:105:5
+-- src/word.rt:87:5
 loop-less : tie.Need-loop-less Inv-loop μ-loop
-loop-less c = search needs
+loop-less c = let l = head (c .before .before) in omega (arith, c .without .ensures, pow-pos (c .before .before .top-bit .result), c .before .before .top-bit .ensures .0 .0)
 
--- src/lib.rt:105:5
+-- src/word.rt:87:5
 loop-again : tie.Need-loop-again Inv-loop μ-loop
-loop-again c = let j = c .before in
-    let l = j .before .before .before in
-    rw (c .wrapping-add-u16 .ensures)
-    (⊎-elim
-    (λ w. let f = moved (w .1) (w .2) (put (one (record { before = j .before; if1 = w .0 })) (l .loop .inv .2)) in (omega arith, omega (arith, f .count, f .same, f .room), f))
-    (λ w. let f = moved (w .1) (w .2) (skip (zero (record { before = j .before; if1 = w .0 })) (l .loop .inv .2)) in (omega arith, omega (arith, f .count, f .same, f .room), f))
-    (j .if1 .came))
+loop-again c = let l = head (c .before .before) in
+    let f = put (next (c .before)) (l .loop .inv .2) in
+    rw (c .without .ensures) (omega (arith, l .loop .inv .0), omega (arith, f .count, f .same, f .room), f)
 
--- src/lib.rt:91:1
+-- src/word.rt:80:1
 same-length : tie.Need-same-length Inv-loop μ-loop
 same-length c = search needs
 
--- src/lib.rt:91:1
+-- src/word.rt:80:1
 returns : tie.Need-returns Inv-loop μ-loop
 returns c = let l = c .before in
-    let a = l .before .before .args in
-    done (alongFrom-end (a .step) (a .w) (a .room) (l .loop .q) (l .loop .x) (c .loop-test .left)) (l .loop .inv .2)
+    let a = entry l .args in
+    done (placed-none (a .step) (a .first) (a .room) (l .loop .b) (c .loop-test .left)) (l .loop .inv .2)
 
 pub store-vector-spec : {M : Type 1} → statement M
 store-vector-spec =
@@ -102,13 +134,20 @@ store-vector-spec =
     (tie.spec
     Inv-loop
     μ-loop
+    cast-places
+    vector-bits-requires
+    cast-b
+    sub-b
+    shr-b
     loop-holds
-    bit-at-requires
+    top-bit-requires
+    sub-steps-on
+    sub-steps-on-2
+    steps-on-requires
     mul-out
     slice-write-out
+    without-requires
     add-n
-    wrapping-add-u16-requires
-    add-q
     loop-less
     loop-again
     same-length
