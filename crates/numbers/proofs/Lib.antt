@@ -1,2 +1,3 @@
 -- AskedLaws: what a reading is asked, and each way in which it is refused.
 pub mod AskedLaws
+pub mod Unique

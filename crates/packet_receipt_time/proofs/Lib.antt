@@ -2,3 +2,4 @@
 pub mod PairsLaws
 pub mod PairsTurn
 pub mod PairsAnswers
+pub mod Unique

@@ -3,8 +3,11 @@
 // differs: a block is asked by its index, in either reading, and a refusal says why.
 ghost use mathlib.Core.Path.{_≡_};
 ghost use Rattle.wire.specs.Block.{lossType, duplicateType, receiptType};
-ghost use Rattle.readings.specs.Packets.{fieldsAsked, timeAsked};
+ghost use Rattle.refusals.specs.Answers.{Listed};
+ghost use Rattle.readings.specs.Questions.{ListedPairs, ListedEntries};
+ghost use Rattle.readings.specs.Packets.{fieldsAsked, timeAsked, numbersAsked, wordsAsked, pairsAsked, entriesAsked};
 ghost use Rattle.records.specs.Records.{lossOf, duplicateOf, receiptOf, clockOf};
+use refusals::Answer;
 use refusals::Refusal;
 use wire::Fields;
 use wire::FieldsOr;
@@ -40,6 +43,20 @@ impl LossRle {
             FieldsOr::NoneOf(x) => LossOr::NoLoss(x),
         }
     }
+
+    // Block k's numbers: 1 to 6, 9, 10, 7, 11. Port of: loss_rle.rs sequence_iter.
+    pub fn numbers(r: Reading, s: &[u8], k: usize, out: &mut [u16]) -> Answer
+        ensures { λ a. ⌜ Listed (numbersAsked r (now (s .entry)) k lossType) (now (out .entry)) a (now (out .exit)) ⌝ }
+    {
+        numbers::numbers_in(r, s, k, LossRle::BLOCK_TYPE, out)
+    }
+
+    // Block k's chunk words: 1 to 6, 9, 10, 7, 11. Port of: loss_rle.rs chunk_iter.
+    pub fn words(r: Reading, s: &[u8], k: usize, out: &mut [u16]) -> Answer
+        ensures { λ a. ⌜ Listed (wordsAsked r (now (s .entry)) k lossType) (now (out .entry)) a (now (out .exit)) ⌝ }
+    {
+        numbers::words_in(r, s, k, LossRle::BLOCK_TYPE, out)
+    }
 }
 
 // Which packets came once and not more often (RFC 3611, 4.2).
@@ -70,6 +87,20 @@ impl DuplicateRle {
             FieldsOr::NoneOf(x) => DuplicateOr::NoDuplicate(x),
         }
     }
+
+    // Block k's numbers: 1 to 6, 9, 10, 7, 11. Port of: duplicate_rle.rs sequence_iter.
+    pub fn numbers(r: Reading, s: &[u8], k: usize, out: &mut [u16]) -> Answer
+        ensures { λ a. ⌜ Listed (numbersAsked r (now (s .entry)) k duplicateType) (now (out .entry)) a (now (out .exit)) ⌝ }
+    {
+        numbers::numbers_in(r, s, k, DuplicateRle::BLOCK_TYPE, out)
+    }
+
+    // Block k's chunk words: 1 to 6, 9, 10, 7, 11. Port of: duplicate_rle.rs chunk_iter.
+    pub fn words(r: Reading, s: &[u8], k: usize, out: &mut [u16]) -> Answer
+        ensures { λ a. ⌜ Listed (wordsAsked r (now (s .entry)) k duplicateType) (now (out .entry)) a (now (out .exit)) ⌝ }
+    {
+        numbers::words_in(r, s, k, DuplicateRle::BLOCK_TYPE, out)
+    }
 }
 
 // When packets came (RFC 3611, 4.3).
@@ -99,6 +130,13 @@ impl PacketReceiptTimes {
             FieldsOr::Shown(f) => ReceiptOr::Receipt(PacketReceiptTimes::new(f)),
             FieldsOr::NoneOf(x) => ReceiptOr::NoReceipt(x),
         }
+    }
+
+    // Block k's sequence numbers and receipt times: 1 to 6, 9, 10, 7, 11. Port of: packet_receipt_time.rs sequence_iter.
+    pub fn pairs(r: Reading, s: &[u8], k: usize, numbers: &mut [u16], times: &mut [u32]) -> Answer
+        ensures { λ a. ⌜ ListedPairs (pairsAsked r (now (s .entry)) k) (now (numbers .entry)) (now (times .entry)) a (now (numbers .exit)) (now (times .exit)) ⌝ }
+    {
+        packet_receipt_time::pairs_in(r, s, k, numbers, times)
     }
 }
 
@@ -144,5 +182,19 @@ impl DelaySinceLastReceiverReport {
         ensures { λ r. ⌜ r .entries ≡ entries ⌝ }
     {
         DelaySinceLastReceiverReport { entries }
+    }
+
+    // Block k's echoes: 1 to 6, 9, 10, 7, 11. Port of: dlrr.rs block_iter.
+    pub fn entries(
+        r: Reading,
+        s: &[u8],
+        k: usize,
+        ssrcs: &mut [u32],
+        lasts: &mut [u32],
+        delays: &mut [u32],
+    ) -> Answer
+        ensures { λ a. ⌜ ListedEntries (entriesAsked r (now (s .entry)) k) (now (ssrcs .entry)) (now (lasts .entry)) (now (delays .entry)) a (now (ssrcs .exit)) (now (lasts .exit)) (now (delays .exit)) ⌝ }
+    {
+        dlrr::entries_in(r, s, k, ssrcs, lasts, delays)
     }
 }

@@ -2,16 +2,16 @@
 --     crate-cons      a word's numbers up to its first one that fails, and then, where none does, those of the rest from the moved start
 --     crate-passing, crate-failing     the two cases
 --     stop-*          where a word's first failing one is
-use Prim.Native.Nat.{ℕ, zero, suc, _+_, _*_, _-_, _%_, _^_, _≤_, _<_}
-use mathlib.Core.Path.{_≡_, refl, sym, ap, _∙_}
-use mathlib.Core.Bool.{Bool, true, false, cond, not, _&&_}
-use mathlib.Core.List.{List, [], _∷_, _++_, map, append-nil}
+use Prim.Native.Nat.{ℕ, suc, _+_, _*_, _-_, _%_, _^_, _≤_, _<_}
+use mathlib.Core.Path.{_≡_, refl, ap, _∙_}
+use mathlib.Core.Bool.{cond}
+use mathlib.Core.List.{List, [], _∷_, _++_, map}
 use native.Mathlib.Nat.{mod-add-mod, add-mod-mod, mod-eq-of-lt, mod-lt}
 use native.Mathlib.Omega.{arith}
-use lib.ListN.{length, take, drop, getD, replicate, length-append, length-take}
+use lib.ListN.{length, take, length-append, length-take}
 use lib.Dec.{ltb, eqb, lit<}
 use borrow.Author.Tests.{lt-ltb, le-ltb, ltb-true, ltb-false}
-use Rattle.base.proofs.Tests.{either}
+use Rattle.base.proofs.Tests.{either, both}
 use Rattle.standard.specs.Chunks.{coversOf, valuesIn}
 use Rattle.standard.specs.Listing.{listFrom}
 use Rattle.standard.specs.Range.{circle}
@@ -20,8 +20,9 @@ use Rattle.old_crate.specs.Crate.{Try, whileFrom, onesIn, tryAt, triesFrom, cra
 use Rattle.chunk.proofs.ChunkLaws.{length-valuesIn, covers-lt}
 use Rattle.rle.specs.Along.{onward, along}
 use Rattle.rle.specs.Inside.{stepOf}
-use Rattle.rle.specs.Failing.{failsAt, stopFrom, stopAt}
+use Rattle.rle.specs.Failing.{failsAt, stopFrom, stopAt, mostOf}
 use Rattle.rle.proofs.ListingLaws.{length-along-le}
+use Rattle.rle.proofs.WordLaws.{word-zeros}
 
 -- the next place's number is one step on
 sequenceOf-suc : (q start t : ℕ) → sequenceOf (suc q) start t ≡ onward (stepOf t) (sequenceOf q start t)
@@ -114,12 +115,36 @@ module _ (end t : ℕ) where
   unfolding crateNumbersFrom triesFrom
   crate-nil start = refl
 
-  -- no word lists more than 16,383
-  pub length-crate : (start : ℕ) (ws : List ℕ) → start < 65536 → length (crateNumbersFrom end t start ws) ≤ 16383 * length ws
+  -- a word lists no more than it can
+  word-most : (start w : ℕ) → length (along (stepOf t) start (take (stopAt start end t w) (valuesIn w))) ≤ cond (ltb w 16384) 0 (coversOf w)
+  word-most start w =
+      either (ltb w 16384)
+      (λ u. rw (u, word-zeros (stepOf t) start (stopAt start end t w) w (ltb-true _ _ u)) (let z : length {A = ℕ} [] ≤ 0 = omega arith in z))
+      (λ f. rw f (let k : length (along (stepOf t) start (take (stopAt start end t w) (valuesIn w))) ≤ coversOf w = omega (arith, length-along-le (stepOf t) start (take (stopAt start end t w) (valuesIn w)), length-take (stopAt start end t w) (valuesIn w), length-valuesIn w) in k))
+
+  -- and so do words
+  pub length-crate : (start : ℕ) (ws : List ℕ) → start < 65536 → length (crateNumbersFrom end t start ws) ≤ mostOf ws
+  unfolding mostOf
   length-crate start [] h = rw (crate-nil start) (omega arith)
   length-crate start (w ∷ ws) h =
-      let few : length (along (stepOf t) start (take (stopAt start end t w) (valuesIn w))) ≤ 16383 = omega (arith, length-along-le (stepOf t) start (take (stopAt start end t w) (valuesIn w)), length-take (stopAt start end t w) (valuesIn w), length-valuesIn w, covers-lt w) in
-      let rest : length (crateNumbersFrom end t (movedBy (coversOf w) t start) ws) ≤ 16383 * length ws = length-crate (movedBy (coversOf w) t start) ws (mod-lt (start + coversOf w * 2 ^ t % 65536) (lit< tt)) in
+      let few : length (along (stepOf t) start (take (stopAt start end t w) (valuesIn w))) ≤ cond (ltb w 16384) 0 (coversOf w) = word-most start w in
+      let rest : length (crateNumbersFrom end t (movedBy (coversOf w) t start) ws) ≤ mostOf ws = length-crate (movedBy (coversOf w) t start) ws (mod-lt (start + coversOf w * 2 ^ t % 65536) (lit< tt)) in
       either (ltb (stopAt start end t w) (coversOf w))
       (λ u. rw (crate-failing start w ws h (ltb-true _ _ u), length-append) (omega arith))
       (λ f. rw (crate-passing start w ws h (ltb-false _ _ f), length-append) (omega arith))
+
+-- a word's part of `mostOf`, and its bound
+pub most-cons : (w : ℕ) (ws : List ℕ) → mostOf (w ∷ ws) ≡ cond (ltb w 16384) 0 (coversOf w) + mostOf ws
+unfolding mostOf
+most-cons w ws = refl
+
+pub most-nil : mostOf [] ≡ 0
+unfolding mostOf
+most-nil = refl
+
+pub most-le : (ws : List ℕ) → mostOf ws ≤ 16383 * length ws
+unfolding mostOf
+most-le [] = omega arith
+most-le (w ∷ ws) =
+    let one : cond (ltb w 16384) 0 (coversOf w) ≤ 16383 = both (λ (x : ℕ). x ≤ 16383) (ltb w 16384) (λ _. omega arith) (λ _. covers-lt w) in
+    omega (arith, most-le ws)

@@ -1,6 +1,7 @@
 -- One turn of the crate's list: the word at an index of the bytes. Assumes nothing.
-use Prim.Native.Nat.{ℕ, suc, _+_, _*_, _/_, min, _≤_, _<_}
-use mathlib.Core.Path.{_≡_, refl, sym, ap, _∙_}
+use Prim.Native.Nat.{ℕ, _+_, min, _≤_, _<_}
+use mathlib.Core.Path.{_≡_, ap, _∙_}
+use mathlib.Core.Bool.{cond}
 use mathlib.Core.List.{List, [], _∷_, _++_}
 use native.Mathlib.Omega.{arith}
 use lib.ListN.{length, take, drop, length-take}
@@ -15,8 +16,11 @@ use Rattle.old_crate.specs.Crate.{crateNumbersFrom}
 use Rattle.utils.proofs.BytesLaws.{pairUp-cons, pairUp-end, length-pairUp}
 use Rattle.rle.specs.Along.{along}
 use Rattle.rle.specs.Inside.{stepOf}
-use Rattle.rle.specs.Failing.{stopAt}
-use Rattle.rle.proofs.CrateLaws.{crate-nil, crate-cons, crate-passing, crate-failing, length-crate}
+use Rattle.rle.specs.Failing.{stopAt, mostOf}
+use Rattle.rle.proofs.WordLaws.{word-zeros}
+use Rattle.rle.proofs.StopLaws.{stop-zeros}
+use Rattle.rle.proofs.Writing.{counted}
+use Rattle.rle.proofs.CrateLaws.{crate-nil, crate-cons, crate-passing, crate-failing, length-crate, most-nil, most-cons, most-le}
 
 -- what is still to be listed from an index of the bytes on, with the start moved so far
 abbrev pub here : ℕ → ℕ → List ℕ → ℕ → ℕ → List ℕ
@@ -29,7 +33,7 @@ added end t w start = along (stepOf t) start (take (stopAt start end t w) (value
 module _ (end t : ℕ) (bytes : List ℕ) where
   -- the count fits its type
   pub length-here : (start : ℕ) → start < 65536 → length bytes ≤ 262144 → length (here end t bytes 0 start) ≤ 2147352576
-  length-here start s h = omega (arith, length-crate end t start (words16 bytes) s, length-pairUp 256 bytes)
+  length-here start s h = omega (arith, length-crate end t start (words16 bytes) s, most-le (words16 bytes), length-pairUp 256 bytes)
 
   module _ (at start : ℕ) where
     -- fewer than two bytes are left
@@ -51,9 +55,26 @@ module _ (end t : ℕ) (bytes : List ℕ) where
       pub here-next : coversOf w ≤ stopAt start end t w → here end t bytes at start ≡ added end t w start ++ here end t bytes (at + 2) (movedBy (coversOf w) t start)
       here-next k = here-cons ∙ crate-passing end t start w (words16 (drop (at + 2) bytes)) s k
 
+      -- zeros list nothing
+      pub here-zeros : w < 16384 → here end t bytes at start ≡ here end t bytes (at + 2) (movedBy (coversOf w) t start)
+      here-zeros z =
+          let e : stopAt start end t w ≡ coversOf w = stop-zeros start end t w z in
+          here-next (omega (arith, e)) ∙ ap (λ (l : List ℕ). l ++ here end t bytes (at + 2) (movedBy (coversOf w) t start)) (word-zeros (stepOf t) start (stopAt start end t w) w z)
+
       -- in either case the word's numbers come first
       pub here-word : (rest : List ℕ) × (here end t bytes at start ≡ added end t w start ++ rest)
       here-word = (_, here-cons ∙ crate-cons end t start w (words16 (drop (at + 2) bytes)) s)
+
+      -- the same for a count: n are counted, and the word adds `more`
+      module _ (n more total : ℕ) (m : more ≡ length (added end t w start)) (e : n + length (here end t bytes at start) ≡ total) where
+        pub count-room : n + more ≤ total
+        count-room = let k = counted n more total (added end t w start) (here-word .0) (here end t bytes at start) (here-word .1) m e in omega arith
+
+        pub count-last : stopAt start end t w < coversOf w → n + more ≡ total
+        count-last c = let k = counted n more total (added end t w start) [] (here end t bytes at start) (here-last c) m e in omega arith
+
+        pub count-next : coversOf w ≤ stopAt start end t w → n + more + length (here end t bytes (at + 2) (movedBy (coversOf w) t start)) ≡ total
+        count-next c = counted n more total (added end t w start) (here end t bytes (at + 2) (movedBy (coversOf w) t start)) (here end t bytes at start) (here-next c) m e
 
 -- no more bytes are read than the longest packet has, nor than there are
 pub part : (k size : ℕ) (l : List ℕ) → size ≡ min k (length l) → take size l ≡ take k l
@@ -64,3 +85,14 @@ part k size l e =
 
 pub length-part : (k size : ℕ) (l : List ℕ) → size ≡ min k (length l) → size ≡ length (take size l)
 length-part k size l e = omega (arith, length-take size l)
+
+-- the bound on what words list, word by word
+module _ (bytes : List ℕ) (at : ℕ) where
+  pub most-end : length bytes ≤ at + 1 → mostOf (words16 (drop at bytes)) ≡ 0
+  most-end h = rw (pairUp-end 256 bytes at h) most-nil
+
+  pub most-next : at + 1 < length bytes → mostOf (words16 (drop at bytes)) ≡ cond (ltb (be16 bytes at) 16384) 0 (coversOf (be16 bytes at)) + mostOf (words16 (drop (at + 2) bytes))
+  most-next h = rw (pairUp-cons 256 bytes at (let k : at + 2 ≤ length bytes = omega arith in k)) (most-cons (be16 bytes at) (words16 (drop (at + 2) bytes)))
+
+pub most-fits : (bytes : List ℕ) → length bytes ≤ 262144 → mostOf (words16 bytes) ≤ 2147352576
+most-fits bytes h = omega (arith, most-le (words16 bytes), length-pairUp 256 bytes)

@@ -3,19 +3,18 @@
 --     before-first      every place before `firstFail` passes
 --     at-first          `firstFail` itself fails, unless it is `never`
 --     never-fails       where it is, every place passes
-use Prim.Native.Nat.{ℕ, zero, suc, _+_, _*_, _-_, _/_, _%_, _^_, _≤_, _<_}
-use mathlib.Core.Path.{_≡_, refl, sym, ap, _∙_}
-use mathlib.Core.Bool.{Bool, true, false, cond, not, _&&_}
+use Prim.Native.Nat.{ℕ, _+_, _*_, _-_, _%_, _^_, _≤_, _<_}
+use mathlib.Core.Path.{_≡_, refl, ap, _∙_}
+use mathlib.Core.Bool.{true, false}
 use native.Mathlib.Nat.{mod-eq-of-lt, mod-lt, mul-le-mul-right, mul-le-mul-left, mul-mod-left, mul-assoc, add-zero}
 use native.Mathlib.Omega.{arith}
 use lib.Dec.{ltb, leb, lit<}
 use lib.Pow.{pow-pos, pow-mono, pow-add, mod-pow-add, shl-shr, shl-exact}
 use borrow.Author.Tests.{lt-ltb, le-ltb, le-leb, lt-leb, ltb-true, ltb-false, leb-true, leb-false}
-use Rattle.base.proofs.Tests.{either, by-test, true≢false}
-use Rattle.standard.specs.Range.{circle}
+use Rattle.base.proofs.Tests.{either}
 use Rattle.old_crate.specs.Sequence.{passes, sequenceOf, doubledOf}
 use Rattle.rle.specs.Inside.{ceilDiv}
-use Rattle.rle.specs.Failing.{gapOf, isNear, againOf, never, firstFail}
+use Rattle.rle.specs.Failing.{gapOf, againOf, never, firstFail}
 use Rattle.rle.proofs.InsideLaws.{ceil-test, ceil-le, ceil-below, ceil-above}
 
 module _ (start end : ℕ) (s : start < 65536) (e : end < 65536) where
@@ -169,27 +168,7 @@ module _ (start end t : ℕ) (s : start < 65536) (e : end < 65536) where
       let l : 1 * 2 ^ t ≤ first * 2 ^ t = mul-le-mul-right (2 ^ t) one in
       first-never (omega (arith, again-high start end s e, l, p))
 
-  -- a word that is near ends before it
-  pub near-first : (covered : ℕ) → isNear covered t gap ≡ true → covered ≤ firstFail start end t
-  unfolding isNear firstFail
-  near-first zero n = omega arith
-  near-first (suc q) n =
-      by-test (leb 16 t) (λ _ b. true≢false b)
-      (λ _ b. let k : suc q * 2 ^ t ≤ gap = leb-true _ _ b in
-      let l : q < first = ceil-below gap (2 ^ t) (pow-pos t) q (let j : q * 2 ^ t < gap = omega (arith, pow-pos t) in j) in
-      either (ltb (first * 2 ^ t) (againOf start end)) (λ u. rw u (let j : suc q ≤ first = omega arith in j))
-      (λ v. rw v (omega (arith, ceil-le gap (2 ^ t) (pow-pos t), gap-high start end s e)))) n
-
   -- it is at most a circle's worth of steps, so its distance does not wrap
   pub first-fits : t < 16 → first * 2 ^ t % 2 ^ 64 ≡ first * 2 ^ t
   first-fits h =
       shl-exact 17 t 64 (let k : first < 2 ^ 17 = omega (arith, ceil-le gap (2 ^ t) (pow-pos t), gap-high start end s e) in k) (omega arith)
-
--- the two cases of `isNear`
-pub near-wide : (covered t gap : ℕ) → 16 ≤ t → false ≡ isNear covered t gap
-unfolding isNear
-near-wide covered t gap h = rw (le-leb _ _ h)
-
-pub near-shifted : (covered t gap : ℕ) → t < 16 → covered < 16384 → leb (covered * 2 ^ t % 2 ^ 64) gap ≡ isNear covered t gap
-unfolding isNear
-near-shifted covered t gap h k = rw (lt-leb _ _ h, shl-exact {a = covered} 14 t 64 k (omega arith))

@@ -1,7 +1,7 @@
 -- Which positions are inside a range: those below `insideCount`. Assumes nothing.
-use Prim.Native.Nat.{ℕ, zero, suc, _+_, _*_, _-_, _/_, _%_, _^_, _≤_, _<_}
-use mathlib.Core.Path.{_≡_, refl, sym, ap, _∙_}
-use mathlib.Core.Bool.{Bool, true, false, cond}
+use Prim.Native.Nat.{ℕ, suc, _+_, _*_, _-_, _/_, _^_, _≤_, _<_}
+use mathlib.Core.Path.{_≡_, sym, _∙_}
+use mathlib.Core.Bool.{true, false}
 use native.Mathlib.Nat.{div-lt-iff-lt-mul, div-eq-sub-div, mul-le-mul-left}
 use native.Mathlib.Omega.{arith}
 use lib.Dec.{ltb}
@@ -17,16 +17,15 @@ module _ (a m : ℕ) (h : 0 < m) where
   pub ceil-below : (p : ℕ) → p * m < a → p < ceilDiv a m
   unfolding ceilDiv
   ceil-below p k =
-      either (ltb p ((a + (m - 1)) / m)) (λ t. ltb-true _ _ t)
-      (λ f. let l : (a + (m - 1)) / m < suc p = let j : (a + (m - 1)) / m ≤ p = ltb-false _ _ f in omega arith in
-      let b : a + (m - 1) < suc p * m = div-lt-iff-lt-mul h .0 l in
-      absurd (omega arith))
+      either (ltb p (ceilDiv a m)) (λ t. ltb-true _ _ t)
+      (λ f. let j : ceilDiv a m ≤ p = ltb-false _ _ f in
+      let l : ceilDiv a m < suc p = omega arith in
+      absurd (omega (arith, div-lt-iff-lt-mul h .0 l)))
 
   pub ceil-above : (p : ℕ) → a ≤ p * m → ceilDiv a m ≤ p
   unfolding ceilDiv
   ceil-above p k =
-      let b : a + (m - 1) < suc p * m = omega arith in
-      let l : (a + (m - 1)) / m < suc p = div-lt-iff-lt-mul h .1 b in
+      let l : ceilDiv a m < suc p = div-lt-iff-lt-mul h .1 (omega arith) in
       omega arith
 
   pub ceil-test : (p : ℕ) → ltb (p * m) a ≡ ltb p (ceilDiv a m)

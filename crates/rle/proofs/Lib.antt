@@ -9,7 +9,8 @@ pub mod Writing
 pub mod StandardTurn
 pub mod FailLaws
 pub mod CrateLaws
+pub mod DigitLaws
 pub mod StopLaws
+pub mod NextLaws
 pub mod CrateTurn
-pub mod MostLaws
-pub mod PlacedLaws
+pub mod Unique

@@ -1,12 +1,11 @@
 -- Lists that go by positions, and numbers one step apart. Assumes nothing.
-use Prim.Native.Nat.{ℕ, zero, suc, _+_, _-_, min, _≤_, _<_}
+use Prim.Native.Nat.{ℕ, zero, suc, _+_, _-_, _≤_}
 use mathlib.Core.Path.{_≡_, refl, sym, ap, _∙_}
 use mathlib.Core.Bool.{Bool, true, false, cond}
-use mathlib.Core.List.{List, [], _∷_, _++_, map}
-use native.Mathlib.Nat.{add-zero, add-suc}
+use mathlib.Core.List.{List, [], _∷_, _++_}
+use native.Mathlib.Nat.{add-zero}
 use native.Mathlib.Omega.{arith}
-use lib.ListN.{length, take, drop, replicate, getD}
-use lib.Seq.{drop-cons, take-suc}
+use lib.ListN.{length, replicate}
 use lib.Dec.{eqb}
 use Rattle.base.proofs.Tests.{both, either}
 use Rattle.standard.specs.Listing.{listFrom}

@@ -3,21 +3,21 @@
 --     numbers-outside   nothing is listed from a position outside on
 --     numbers-along     values from a position on: numbers one step apart, as far as the range goes
 --     places-cons       a word's numbers from a place on, place by place
-use Prim.Native.Nat.{ℕ, zero, suc, _+_, _*_, _-_, _%_, _^_, _≤_, _<_}
-use mathlib.Core.Path.{_≡_, refl, sym, ap, _∙_}
-use mathlib.Core.Bool.{Bool, true, false, cond, _&&_}
+use Prim.Native.Nat.{ℕ, suc, _+_, _*_, _-_, _%_, _^_, _≤_, _<_}
+use mathlib.Core.Path.{_≡_, refl, ap}
+use mathlib.Core.Bool.{false, cond}
 use mathlib.Core.List.{List, [], _∷_, _++_}
 use native.Mathlib.Nat.{mod-add-mod, add-mod-mod}
 use native.Mathlib.Omega.{arith}
-use lib.ListN.{length, take, drop, getD, length-take}
+use lib.ListN.{length, take, getD, length-take}
 use lib.Seq.{take-nil, drop-cons}
 use lib.Dec.{ltb, eqb}
 use borrow.Author.Tests.{ltb-true, ltb-false}
 use Rattle.base.proofs.Tests.{either, and-false-r, and-true-r}
 use Rattle.standard.specs.declared.Range.{Range}
-use Rattle.standard.specs.Chunks.{coversOf, valueOf, valuesIn}
+use Rattle.standard.specs.Chunks.{coversOf, valuesIn}
 use Rattle.standard.specs.Listing.{listFrom}
-use Rattle.standard.specs.Range.{inside, numberOf, offsetOf, circle}
+use Rattle.standard.specs.Range.{numberOf, offsetOf, circle}
 use Rattle.standard.specs.Standard.{isListed, valuesOf, numbersFrom}
 use Rattle.chunk.proofs.ChunkLaws.{length-valuesIn}
 use Rattle.rle.specs.Along.{onward, along}

@@ -1,12 +1,12 @@
 -- One turn of the standard list: the word at an index of the bytes. Assumes nothing.
 --     Standing     `left` positions are still inside, and the next one has the number `first`
 --     here         what is still to be listed there
-use Prim.Native.Nat.{ℕ, zero, suc, _+_, _*_, _-_, _%_, _^_, _≤_, _<_}
+use Prim.Native.Nat.{ℕ, _+_, _*_, _-_, _%_, _^_, _≤_, _<_}
 use mathlib.Core.Path.{_≡_, refl, sym, ap, _∙_}
-use mathlib.Core.List.{List, [], _∷_, _++_}
+use mathlib.Core.List.{List, [], _++_}
 use native.Mathlib.Nat.{mod-add-mod, add-mod-mod, mod-eq-of-lt}
 use native.Mathlib.Omega.{arith}
-use lib.ListN.{length, take, drop, getD}
+use lib.ListN.{length, take, drop}
 use Rattle.wire.specs.Bytes.{words16, be16}
 use Rattle.standard.specs.declared.Range.{Range}
 use Rattle.standard.specs.Chunks.{coversOf, valuesIn}

@@ -1,18 +1,15 @@
 -- Where a word's first failing one is, by kinds and place by place. Assumes nothing.
 use Prim.Native.Nat.{ℕ, zero, suc, _+_, _*_, _-_, _/_, _%_, _^_, _≤_, _<_}
 use mathlib.Core.Path.{_≡_, refl, sym, ap, _∙_}
-use mathlib.Core.Bool.{Bool, true, false, cond, not, _&&_}
-use mathlib.Core.List.{List, [], _∷_}
-use native.Mathlib.Numerals.{add-one}
+use mathlib.Core.Bool.{true, false, cond}
 use native.Mathlib.Omega.{arith}
-use lib.ListN.{length, drop, getD, replicate, getD-replicate, drop-of-length-le}
+use lib.ListN.{length, drop, drop-of-length-le}
 use lib.Seq.{drop-cons}
-use lib.Dec.{ltb, eqb}
 use borrow.Author.Tests.{eq-eqb, ne-eqb}
-use Rattle.base.proofs.Tests.{either, and-false-r}
+use Rattle.base.proofs.Tests.{and-false-r}
 use Rattle.standard.specs.Chunks.{coversOf, valueOf, valuesIn}
 use Rattle.old_crate.specs.Sequence.{passes, sequenceOf, movedBy}
-use Rattle.chunk.proofs.ChunkLaws.{length-valuesIn, values-run, values-at, value-run, covers-lt}
+use Rattle.chunk.proofs.ChunkLaws.{length-valuesIn, values-at, value-run, covers-lt}
 use Rattle.rle.specs.Failing.{failsAt, firstFail, never, stopFrom, stopAt}
 use Rattle.rle.proofs.FailLaws.{before-first, at-first}
 

@@ -1,13 +1,12 @@
 -- The numbers of one word's ones, up to a place: by kinds, and place by place. Assumes nothing.
-use Prim.Native.Nat.{ℕ, zero, suc, _+_, _*_, _-_, _/_, _%_, _^_, min, _≤_, _<_}
-use mathlib.Core.Path.{_≡_, refl, sym, ap, _∙_}
-use mathlib.Core.Bool.{Bool, true, false, cond}
-use mathlib.Core.List.{List, [], _∷_, _++_}
+use Prim.Native.Nat.{ℕ, zero, suc, _+_, _-_, _/_, _%_, min, _≤_, _<_}
+use mathlib.Core.Path.{_≡_, sym, ap, _∙_}
+use mathlib.Core.List.{List, [], _∷_}
 use native.Mathlib.Numerals.{add-one}
 use native.Mathlib.Omega.{arith}
-use lib.ListN.{length, take, drop, getD, replicate}
+use lib.ListN.{length, take, drop, replicate}
 use lib.Seq.{take-all, drop-cons}
-use lib.Dec.{ltb, eqb}
+use lib.Dec.{ltb}
 use borrow.Author.Tests.{le-ltb, ltb-true, ltb-false, ne-eqb}
 use Rattle.base.proofs.Tests.{either}
 use Rattle.standard.specs.Chunks.{coversOf, valueOf, valuesIn}
@@ -80,3 +79,8 @@ alongFrom-start step w room x = let e : room - 0 ≡ room = omega arith in rw e
 pub length-ones : (step first room w : ℕ) → length (onesBefore w room) ≡ length (along step first (take room (valuesIn w)))
 unfolding onesBefore
 length-ones step first room w = sym (length-along step first 0 (take room (valuesIn w)))
+
+-- the same step, place and word list the same
+pub along-same : {step step′ room room′ w w′ : ℕ} (first : ℕ) → step ≡ step′ → room ≡ room′ → w ≡ w′
+    → along step first (take room (valuesIn w)) ≡ along step′ first (take room′ (valuesIn w′))
+along-same first s r e = rw (s, r, e)

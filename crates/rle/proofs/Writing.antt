@@ -1,5 +1,5 @@
 -- A slice that is being filled, by calls that store several at once (base's Filling and Wrote together).
-use Prim.Native.Nat.{ℕ, _+_, _≤_}
+use Prim.Native.Nat.{ℕ, _+_}
 use mathlib.Core.Path.{_≡_, refl, ap, _∙_}
 use native.Mathlib.Omega.{arith}
 use mathlib.Core.List.{List, [], _++_}

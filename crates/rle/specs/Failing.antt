@@ -2,10 +2,10 @@
 --     firstFail    the first place whose number fails
 --     stopAt       the place of a word's first one whose number fails
 use Prim.Native.Nat.{ℕ, suc, _+_, _*_, _-_, _%_, _^_}
-use mathlib.Core.Bool.{Bool, false, cond, not, _&&_}
+use mathlib.Core.Bool.{Bool, cond, not, _&&_}
 use mathlib.Core.List.{List, [], _∷_}
-use lib.Dec.{ltb, leb, eqb}
-use Rattle.standard.specs.Chunks.{valuesIn}
+use lib.Dec.{ltb, eqb}
+use Rattle.standard.specs.Chunks.{coversOf, valuesIn}
 use Rattle.standard.specs.Range.{circle}
 use Rattle.old_crate.specs.Sequence.{passes, sequenceOf}
 use Rattle.rle.specs.Inside.{ceilDiv}
@@ -17,10 +17,6 @@ gapOf start end = (end + 65535 - start) % circle + 1
 -- as far from the start as this, and further, numbers pass again
 abbrev pub againOf : ℕ → ℕ → ℕ
 againOf start end = cond (ltb start end) (circle - start) circle
-
--- a word that covers so many places has none as far as end
-unfoldable pub isNear : ℕ → ℕ → ℕ → Bool
-isNear covered t gap = cond (leb 16 t) false (leb (covered * 2 ^ t) gap)
 
 -- no place fails: larger than any place
 abbrev pub never : ℕ
@@ -48,3 +44,8 @@ stopAt start end t w = stopFrom start end t 0 (valuesIn w)
 -- the crate reading's functions read no more bytes than the longest packet has, so that a count fits its type
 abbrev pub longest : ℕ
 longest = 262144
+
+-- at most as many numbers as these words can list: none of zeros, one for each place else
+unfoldable pub mostOf : List ℕ → ℕ
+mostOf [] = 0
+mostOf (w ∷ ws) = cond (ltb w 16384) 0 (coversOf w) + mostOf ws

@@ -1,6 +1,6 @@
 -- What the functions of this crate compute on their way to the definitions' lists. Read in this order:
--- Along (numbers one step apart), Inside (how many positions are inside), Failing (where the crate's test fails first), Most (how many ones there are).
+-- Along (numbers one step apart), Inside (how many positions are inside), Failing (where the crate's test fails first), Digits.
 pub mod Along
 pub mod Inside
 pub mod Failing
-pub mod Most
+pub mod Digits

@@ -85,12 +85,13 @@ pub fn count_standard(bytes: &[u8], g: Range) -> usize
 pub fn fill_standard(bytes: &[u8], g: Range, out: &mut [u16]) -> Answer
     ensures { λ r. ⌜ Listed (shown (numbersOf g (words16 (now (bytes .entry))))) (now (out .entry)) r (now (out .exit)) ⌝ }
 {
-    let need = count_standard(bytes, g);
-    if need <= out.len() {
-        Answer::Done(list::list_standard(bytes, g, out))
-    } else {
-        Answer::Refused(Refusal::NoRoom(need, out.len()))
+    if out.len() < inside_count(g) {
+        let need = count_standard(bytes, g);
+        if out.len() < need {
+            return Answer::Refused(Refusal::NoRoom(need, out.len()));
+        }
     }
+    Answer::Done(list::list_standard(bytes, g, out))
 }
 
 // As far from the start as this, and further, numbers pass the crate's test again.
@@ -112,7 +113,8 @@ pub fn first_fail(start: u16, end: u16, thinning: u8) -> usize
     if 16 <= thinning {
         return NEVER;
     }
-    let q = word::ceil_shift(word::gap(start, end), thinning);
+    let gap = (end as usize + 65535 - start as usize) % 65536 + 1;
+    let q = word::ceil_shift(gap, thinning);
     if utils::times_two_to(q, thinning) < again_from(start, end) {
         q
     } else {
@@ -135,12 +137,13 @@ pub fn fill_crate(bytes: &[u8], end: u16, thinning: u8, begin: u16, out: &mut [u
 {
     let size = word::least(LONGEST, bytes.len());
     let part = &bytes[..size];
-    let need = list::needed_crate(part, end, thinning, begin, out.len());
-    if need <= out.len() {
-        Answer::Done(list::list_crate(part, end, thinning, begin, out))
-    } else {
-        Answer::Refused(Refusal::NoRoom(need, out.len()))
+    if out.len() < list::at_most(part) {
+        let need = list::tally_crate(part, end, thinning, begin);
+        if out.len() < need {
+            return Answer::Refused(Refusal::NoRoom(need, out.len()));
+        }
     }
+    Answer::Done(list::list_crate(part, end, thinning, begin, out))
 }
 
 // How many whole words there are.

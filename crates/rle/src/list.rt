@@ -6,7 +6,7 @@ ghost use Rattle.wire.specs.Bytes.{words16};
 ghost use Rattle.standard.specs.Standard.{numbersOf};
 ghost use Rattle.old_crate.specs.Crate.{crateNumbersFrom};
 ghost use Rattle.rle.specs.Along.{Filled};
-ghost use Rattle.rle.specs.Most.{onesCount, Decides};
+ghost use Rattle.rle.specs.Failing.{mostOf};
 use standard::Range;
 
 // Lists the numbers into a slice that has room for them. Port of: rle.rs RleSequenceIter::next; differs: the standard reading.
@@ -33,30 +33,18 @@ pub(crate) fn list_standard(bytes: &[u8], g: Range, out: &mut [u16]) -> usize
     n
 }
 
-// How many ones the words have. One pass, and no test.
-fn tally_ones(bytes: &[u8]) -> usize
+// As many numbers as the words can list, whatever the range.
+pub(crate) fn at_most(bytes: &[u8]) -> usize
     requires { ⌜ length (now bytes) ≤ 262144 ⌝ }
-    ensures { λ r. ⌜ r ≡ onesCount (words16 (now (bytes .entry))) ⌝ }
+    ensures { λ r. ⌜ r ≡ mostOf (words16 (now (bytes .entry))) ⌝ }
 {
     let mut at: usize = 0;
-    let mut n: usize = 0;
+    let mut n: u32 = 0;
     while at + 1 < bytes.len() {
-        n += chunk::ones_before(utils::pair(bytes[at], bytes[at + 1]), 16384);
+        n += crate::word::weight(utils::pair(bytes[at], bytes[at + 1]));
         at += 2;
     }
-    n
-}
-
-// Whether the crate's numbers have room: where all ones have, no test is made; else the numbers themselves are counted.
-pub(crate) fn needed_crate(bytes: &[u8], end: u16, thinning: u8, begin: u16, room: usize) -> usize
-    requires { ⌜ length (now bytes) ≤ 262144 ⌝ }
-    ensures { λ r. ⌜ Decides (crateNumbersFrom end thinning begin (words16 (now (bytes .entry)))) room r ⌝ }
-{
-    let ones = tally_ones(bytes);
-    if ones <= room {
-        return ones;
-    }
-    tally_crate(bytes, end, thinning, begin)
+    n as usize
 }
 
 // The crate's numbers: how many. Port of: rle.rs RleSequenceIter::next; differs: counted by words.
@@ -65,17 +53,24 @@ pub(crate) fn tally_crate(bytes: &[u8], end: u16, thinning: u8, begin: u16) -> u
     ensures { λ r. ⌜ r ≡ length (crateNumbersFrom end thinning begin (words16 (now (bytes .entry)))) ⌝ }
 {
     let mut start = begin;
+    let mut first = crate::first_fail(begin, end, thinning);
     let mut at: usize = 0;
     let mut n: usize = 0;
     while at + 1 < bytes.len() {
         let w = utils::pair(bytes[at], bytes[at + 1]);
-        let stop = crate::word::stop_at(w, start, end, thinning);
-        n += chunk::ones_before(w, stop);
         let covered = chunk::covers(w);
-        if stop < covered as usize {
-            return n;
+        if 0x4000 <= w {
+            let stop = crate::word::stop_at(w, first, start, end, thinning);
+            n += chunk::ones_before(w, stop);
+            if stop < covered as usize {
+                return n;
+            }
         }
-        start = utils::moved_by(covered, thinning, start);
+        if covered != 0 {
+            let moved = utils::moved_by(covered, thinning, start);
+            first = crate::word::next_fail(first, covered, thinning, start, moved, end);
+            start = moved;
+        }
         at += 2;
     }
     n
@@ -88,17 +83,24 @@ pub(crate) fn list_crate(bytes: &[u8], end: u16, thinning: u8, begin: u16, out: 
 {
     let step = utils::doubled(1, thinning);
     let mut start = begin;
+    let mut first = crate::first_fail(begin, end, thinning);
     let mut at: usize = 0;
     let mut n: usize = 0;
     while at + 1 < bytes.len() {
         let w = utils::pair(bytes[at], bytes[at + 1]);
-        let stop = crate::word::stop_at(w, start, end, thinning);
-        n = crate::word::store_word(out, n, w, stop, start, step);
         let covered = chunk::covers(w);
-        if stop < covered as usize {
-            return n;
+        if 0x4000 <= w {
+            let upto = crate::word::stop_at(w, first, start, end, thinning);
+            n = crate::word::store_word(out, n, w, upto, start, step);
+            if upto < covered as usize {
+                return n;
+            }
         }
-        start = utils::moved_by(covered, thinning, start);
+        if covered != 0 {
+            let next = utils::moved_by(covered, thinning, start);
+            first = crate::word::next_fail(first, covered, thinning, start, next, end);
+            start = next;
+        }
         at += 2;
     }
     n

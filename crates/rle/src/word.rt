@@ -1,12 +1,16 @@
 // One chunk word: its numbers stored, and where its first failing one is. Private to the crate.
 ghost use mathlib.Core.Path.{_≡_};
 ghost use Prim.Native.Nat.{_+_, _*_, _-_, _/_, _%_, _^_, min, _≤_, _<_};
+ghost use mathlib.Core.Bool.{cond};
+ghost use lib.Dec.{ltb};
 ghost use lib.ListN.{length, take};
 ghost use Rattle.standard.specs.Chunks.{coversOf, valueOf, valuesIn};
 ghost use Rattle.base.proofs.Stores.{Wrote};
 ghost use Rattle.rle.specs.Along.{progression, along};
 ghost use Rattle.rle.specs.Inside.{ceilDiv};
-ghost use Rattle.rle.specs.Failing.{gapOf, isNear, firstFail, stopAt};
+ghost use Rattle.rle.specs.Failing.{firstFail, stopAt};
+ghost use Rattle.rle.specs.Digits.{Top};
+ghost use Rattle.old_crate.specs.Sequence.{movedBy};
 
 pub(crate) fn least(a: usize, b: usize) -> usize
     ensures { λ r. ⌜ r ≡ min a b ⌝ }
@@ -27,12 +31,37 @@ pub(crate) fn ceil_shift(a: usize, t: u8) -> usize
     ((a - 1) >> (t as usize)) + 1
 }
 
-// The value at a vector's place.
-fn bit_at(w: u16, q: usize) -> u16
-    requires { ⌜ (32768 ≤ w) × (q ≤ 14) ⌝ }
-    ensures { λ r. ⌜ r ≡ valueOf w q ⌝ }
+// As many numbers as a word can list.
+pub(crate) fn weight(w: u16) -> u32
+    ensures { λ r. ⌜ r ≡ cond (ltb w 16384) 0 (coversOf w) ⌝ }
 {
-    (w >> (14 - q)) & 1
+    if w < 0x4000 {
+        return 0;
+    }
+    chunk::covers(w) as u32
+}
+
+// The place of a number's highest one, counted from below.
+fn top_bit(v: u32) -> usize
+    requires { ⌜ 0 < v ⌝ }
+    ensures { λ r. ⌜ Top v r ⌝ }
+{
+    31 - u32::leading_zeros(v) as usize
+}
+
+fn without_top(v: u32, j: usize) -> u32
+    requires { ⌜ Top v j ⌝ }
+    ensures { λ r. ⌜ r ≡ v - 2 ^ j ⌝ }
+{
+    v - (1u32 << j)
+}
+
+// The number q steps on.
+fn number_on(first: u16, q: usize, step: u16) -> u16
+    requires { ⌜ q ≤ 15 ⌝ }
+    ensures { λ r. ⌜ r ≡ (first + q * step) % 65536 ⌝ }
+{
+    ((first as usize + q * step as usize) % 65536) as u16
 }
 
 // Stores a run's numbers, one step apart.
@@ -51,43 +80,17 @@ fn store_run(out: &mut [u16], at: usize, count: usize, first: u16, step: u16) ->
     n
 }
 
-// The highest bit that is one.
-fn top_bit(b: u32) -> u32
-    requires { ⌜ (0 < b) × (b < 32768) ⌝ }
-    ensures { λ r. ⌜ (2 ^ r ≤ b) × (b < 2 ^ (r + 1)) ⌝ }
-    ensures { λ r. ⌜ r ≤ 14 ⌝ }
-{
-    31 - u32::leading_zeros(b)
-}
-
-// The bits without one of them.
-fn without(b: u32, j: u32) -> u32
-    requires { ⌜ (j ≤ 14) × (2 ^ j ≤ b) ⌝ }
-    ensures { λ r. ⌜ r ≡ b - 2 ^ j ⌝ }
-{
-    b - (1 << j)
-}
-
-// The number q steps on.
-fn steps_on(first: u16, step: u16, q: u32) -> u16
-    requires { ⌜ q ≤ 15 ⌝ }
-    ensures { λ r. ⌜ r ≡ (first + q * step) % 65536 ⌝ }
-{
-    ((first as u32 + q * (step as u32)) % 65536) as u16
-}
-
-// Stores the numbers of a vector's ones, up to a place, from the highest bit down: a turn for each one, and none for zeros.
+// Stores the numbers of a vector's ones, up to a place: one turn for each, from the highest bit down.
 fn store_vector(out: &mut [u16], at: usize, w: u16, room: usize, first: u16, step: u16) -> usize
     requires { ⌜ (32768 ≤ w) × (room ≤ 15) × (at + length (along step first (take room (valuesIn w))) ≤ length (now out)) ⌝ }
     ensures { λ r. ⌜ Wrote (now (out .entry)) at (along step first (take room (valuesIn w))) (now (out .exit)) r ⌝ }
 {
-    let places = room as u32;
-    let mut b = (chunk::vector_bits(w) as u32) >> (15 - places);
+    let mut v = (chunk::vector_bits(w) as u32) >> (15 - room);
     let mut n = at;
-    while b != 0 {
-        let j = top_bit(b);
-        out[n] = steps_on(first, step, places - 1 - j);
-        b = without(b, j);
+    while v != 0 {
+        let j = top_bit(v);
+        out[n] = number_on(first, room - 1 - j, step);
+        v = without_top(v, j);
         n += 1;
     }
     n
@@ -120,59 +123,63 @@ pub(crate) fn store_word(
     store_vector(out, at, w, least(room, 15), first, step)
 }
 
-// The place of a vector's first one that fails, from the first place that fails on; 15 where none does.
+// The place of a vector's first one that fails; 15 where none does.
 // Port of: rle.rs RleSequenceIter::next with xr_offset_sequence; differs: it gives the place, not the numbers before it.
-fn stop_in_vector(w: u16, start: u16, end: u16, thinning: u8, from: usize) -> usize
-    requires { ⌜ (32768 ≤ w) × (from ≤ 15) × (from ≡ firstFail start end thinning) ⌝ }
+fn stop_in_vector(w: u16, start: u16, end: u16, thinning: u8) -> usize
+    requires { ⌜ 32768 ≤ w ⌝ }
     ensures { λ r. ⌜ r ≡ stopAt start end thinning w ⌝ }
 {
-    let mut q = from;
-    while q < 15 {
-        if bit_at(w, q) == 1 {
-            if !utils::passes(start, end, utils::moved_by(q as u16, thinning, start)) {
-                return q;
-            }
+    let mut v = chunk::vector_bits(w) as u32;
+    while v != 0 {
+        let j = top_bit(v);
+        let q = 14 - j;
+        if !utils::passes(start, end, utils::moved_by(q as u16, thinning, start)) {
+            return q;
         }
-        q += 1;
+        v = without_top(v, j);
     }
     15
 }
 
-// How far end lies beyond the start: 1 .. 65,536.
-pub(crate) fn gap(start: u16, end: u16) -> usize
-    ensures { λ r. ⌜ r ≡ gapOf start end ⌝ }
-{
-    (end as usize + 65535 - start as usize) % 65536 + 1
-}
-
-// Whether all places of a word are nearer than end, so that none fails: what most words are, told by one shift.
-fn is_near(covered: usize, thinning: u8, gap: usize) -> bool
-    requires { ⌜ covered < 16384 ⌝ }
-    ensures { λ r. ⌜ r ≡ isNear covered thinning gap ⌝ }
-{
-    if 16 <= thinning {
-        return false;
-    }
-    utils::times_two_to(covered, thinning) <= gap
-}
-
-// The place of a word's first one whose number fails the crate's test; how many places it has where none does.
-pub(crate) fn stop_at(w: u16, start: u16, end: u16, thinning: u8) -> usize
+// The place of a word's first one whose number fails the crate's test; how many places it has where none does. `first` is the first place
+// that fails, whatever its value.
+pub(crate) fn stop_at(w: u16, first: usize, start: u16, end: u16, thinning: u8) -> usize
+    requires { ⌜ first ≡ firstFail start end thinning ⌝ }
     ensures { λ r. ⌜ r ≡ stopAt start end thinning w ⌝ }
 {
     let covered = chunk::covers(w) as usize;
-    if w < 0x4000 {
-        return covered;
-    }
-    if is_near(covered, thinning, gap(start, end)) {
-        return covered;
-    }
-    let first = crate::first_fail(start, end, thinning);
     if covered <= first {
+        return covered;
+    }
+    if w < 0x4000 {
         return covered;
     }
     if w < 0x8000 {
         return first;
     }
-    stop_in_vector(w, start, end, thinning, first)
+    stop_in_vector(w, start, end, thinning)
+}
+
+// The first place that fails, after the start has moved on by a word. Mostly a subtraction.
+pub(crate) fn next_fail(
+    first: usize,
+    covered: u16,
+    thinning: u8,
+    start: u16,
+    moved: u16,
+    end: u16,
+) -> usize
+    requires { ⌜ (first ≡ firstFail start end thinning) × (moved ≡ movedBy covered thinning start) ⌝ }
+    ensures { λ r. ⌜ r ≡ firstFail moved end thinning ⌝ }
+{
+    if first == crate::NEVER {
+        if start < end {
+            return first;
+        }
+        return crate::first_fail(moved, end, thinning);
+    }
+    if (covered as usize) < first {
+        return first - covered as usize;
+    }
+    crate::first_fail(moved, end, thinning)
 }

@@ -1,19 +1,15 @@
+-- `rle::again_from` meets its contract: by the test of start and end. Assumes nothing.
 use borrow.Author.Tests.{lt-ltb, le-ltb}
 use borrow.Author.Needs.{needs}
 use Rattle.rle.proofs.again_from.Statement.{statement}
 use Rattle.rle.proofs.again_from.Tie as tie
-use Rattle.rle.proofs.again_from.Reads as reads
-use Rattle.rle.proofs.again_from.Lts as lts
 
--- src/lib.rt:101:9
 sub-result : tie.Need-sub-result
 sub-result c = search needs
 
--- src/lib.rt:97:1
 returns : tie.Need-returns
 returns c = simp (lt-ltb _ _ (c .if1 .taken))
 
--- src/lib.rt:97:1
 returns-2 : tie.Need-returns-2
 returns-2 c = simp (le-ltb _ _ (c .if1 .left))
 

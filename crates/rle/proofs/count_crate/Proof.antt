@@ -1,27 +1,19 @@
+-- `rle::count_crate` meets its contract: the part that is read is what `take` gives. Assumes nothing.
 use Rattle.rle.proofs.CrateTurn.{part, length-part}
 use native.Mathlib.Omega.{arith}
-use mathlib.Core.Path.{refl, sym, ap, _∙_}
 use borrow.Author.Needs.{needs}
 use Rattle.rle.proofs.count_crate.Statement.{statement}
 use Rattle.rle.proofs.count_crate.Tie as tie
-use Rattle.rle.proofs.count_crate.Reads as reads
-use Rattle.rle.proofs.count_crate.Lts as lts
-use Rattle.rle.proofs.list.tally_crate.Reads as tally-crate-reads
-use Rattle.rle.proofs.word.least.Reads as least-reads
 
--- src/lib.rt:129:9
 least-requires : tie.Need-least-requires
 least-requires c κs = search needs
 
--- src/lib.rt:130:23
 slice-aggregate-tally-crate : tie.Need-slice-aggregate-tally-crate
 slice-aggregate-tally-crate c = length-part 262144 (c .before .least .result) (c .before .before .before .args .bytes .now) (c .before .least .ensures)
 
--- src/lib.rt:130:5
 tally-crate-requires : tie.Need-tally-crate-requires
 tally-crate-requires c κs = omega (arith, length-part 262144 (c .before .least .result) (c .before .before .before .args .bytes .now) (c .before .least .ensures), c .before .least .ensures)
 
--- src/lib.rt:126:1
 returns : tie.Need-returns
 returns c = let f = c .before .before in
     rw (← part 262144 (f .least .result) (f .before .before .args .bytes .now) (f .least .ensures)) (c .tally-crate .ensures)

@@ -1,26 +1,20 @@
+-- `rle::count_standard` meets its contract: what is counted and what is still to be listed make up the whole, for every range with as many positions inside. Assumes nothing.
 use Prim.Native.Nat.{ℕ, _+_, _-_, _≤_, _<_}
-use mathlib.Core.List.{[]}
-use mathlib.Core.Path.{_≡_, refl, sym, ap, _∙_}
+use mathlib.Core.Path.{_≡_, ap, _∙_}
 use native.Mathlib.Omega.{arith}
 use borrow.Author.Needs.{needs}
-use lib.ListN.{length, take, drop}
+use lib.ListN.{length}
 use Rattle.wire.specs.Bytes.{words16, be16}
 use Rattle.standard.specs.declared.Range.{Range}
-use Rattle.standard.specs.Chunks.{coversOf, valuesIn}
-use Rattle.standard.specs.Standard.{numbersOf, numbersFrom}
-use Rattle.rle.specs.Inside.{insideCount, stepOf}
+use Rattle.standard.specs.Chunks.{coversOf}
+use Rattle.standard.specs.Standard.{numbersOf}
+use Rattle.rle.specs.Inside.{insideCount}
 use Rattle.rle.proofs.InsideLaws.{inside-count-le}
 use Rattle.rle.proofs.NumbersLaws.{length-numbers}
 use Rattle.chunk.specs.Ones.{onesBefore}
 use Rattle.rle.proofs.StandardTurn.{here, here-start, here-end, count-room, count-last, count-next}
 use Rattle.rle.proofs.count_standard.Statement.{statement}
 use Rattle.rle.proofs.count_standard.Tie as tie
-use Rattle.rle.proofs.count_standard.Reads as reads
-use Rattle.rle.proofs.count_standard.Lts as lts
-use Rattle.chunk.proofs.covers.Reads as covers-reads
-use Rattle.chunk.proofs.ones_before.Reads as ones-before-reads
-use Rattle.rle.proofs.inside_count.Reads as inside-count-reads
-use Rattle.utils.proofs.pair.Reads as pair-reads
 
 abbrev Inv-loop : tie.InvT-loop
 Inv-loop bytes left₀ at₀ n₀ left at n =
@@ -49,76 +43,60 @@ own : (l : tie.At-loop Inv-loop μ-loop) → let g = entry l .args .g in
     (l .loop .left ≤ insideCount g) × (l .loop .n + length (here g (entry l .args .bytes .now) (l .loop .at) (l .loop .left)) ≡ length (numbersOf g (words16 (entry l .args .bytes .now))))
 own l = l .loop .inv .1 (entry l .args .g) (l .before .inside-count .ensures)
 
--- src/lib.rt:68:9
 inside-count-requires : tie.Need-inside-count-requires Inv-loop μ-loop
 inside-count-requires c κs = search needs
 
--- src/lib.rt:71:5
 loop-holds : tie.Need-loop-holds Inv-loop μ-loop
 loop-holds c = (omega arith, λ g e. (omega (arith, e), rw (e, ← here-start g (c .before .before .args .bytes .now)) (omega arith)))
 
--- src/lib.rt:71:11
 add-loop : tie.Need-add-loop Inv-loop μ-loop
 add-loop c = search needs
 
--- src/lib.rt:72:29
 shared-slice-read-pair : tie.Need-shared-slice-read-pair Inv-loop μ-loop
 shared-slice-read-pair c = search needs
 
--- src/lib.rt:72:46
 add-pair : tie.Need-add-pair Inv-loop μ-loop
 add-pair c = search needs
 
--- src/lib.rt:72:40
 shared-slice-read-pair-2 : tie.Need-shared-slice-read-pair-2 Inv-loop μ-loop
 shared-slice-read-pair-2 c = search needs
 
--- src/lib.rt:72:13
 pair-requires : tie.Need-pair-requires Inv-loop μ-loop
 pair-requires c κs = search needs
 
--- src/lib.rt:73:14
 ones-before-requires : tie.Need-ones-before-requires Inv-loop μ-loop
 ones-before-requires c κs = search needs
 
--- src/lib.rt:73:9
 add-n : tie.Need-add-n Inv-loop μ-loop
 add-n c = let l = c .before .before .before .before .before in
     let s = entry l in
     let g = s .args .g in
-    let k = count-room g (s .args .bytes .now) (l .loop .at) (l .loop .left) (own l .0) (c .before .before .before .before .loop-test .taken) (l .loop .n) (c .ones-before .result) (length (numbersOf g (words16 (s .args .bytes .now)))) (more c) (own l .1) in
+    let k = count-room g (s .args .bytes .now) (l .loop .at) (l .loop .left) (own l .0) (omega (arith, c .before .before .before .before .loop-test .taken)) (l .loop .n) (c .ones-before .result) (length (numbersOf g (words16 (s .args .bytes .now)))) (more c) (own l .1) in
     omega (arith, k, length-numbers g (words16 (s .args .bytes .now)), inside-count-le g)
 
--- src/lib.rt:74:23
 covers-requires : tie.Need-covers-requires Inv-loop μ-loop
 covers-requires c κs = search needs
 
--- src/lib.rt:74:23
 cast-covered : tie.Need-cast-covered Inv-loop μ-loop
 cast-covered c = search needs
 
--- src/lib.rt:76:13
 returns : tie.Need-returns Inv-loop μ-loop
 returns c = let o = c .before .before in
     let l = o .before .before .before .before .before in
     let s = entry l in
     let g = s .args .g in
     let e : l .loop .left ≤ coversOf (word l) = rw (← o .before .pair .ensures, ← c .before .covers .ensures) (c .if1 .taken) in
-    count-last g (s .args .bytes .now) (l .loop .at) (l .loop .left) (own l .0) (o .before .before .before .before .loop-test .taken) (l .loop .n) (o .ones-before .result) (length (numbersOf g (words16 (s .args .bytes .now)))) (more o) (own l .1) e
+    count-last g (s .args .bytes .now) (l .loop .at) (l .loop .left) (own l .0) (omega (arith, o .before .before .before .before .loop-test .taken)) (l .loop .n) (o .ones-before .result) (length (numbersOf g (words16 (s .args .bytes .now)))) (more o) (own l .1) e
 
--- src/lib.rt:78:9
 sub-left : tie.Need-sub-left Inv-loop μ-loop
 sub-left c = search needs
 
--- src/lib.rt:79:9
 add-at : tie.Need-add-at Inv-loop μ-loop
 add-at c = search needs
 
--- src/lib.rt:71:5
 loop-less : tie.Need-loop-less Inv-loop μ-loop
 loop-less c = search needs
 
--- src/lib.rt:71:5
 loop-again : tie.Need-loop-again Inv-loop μ-loop
 loop-again c = let o = c .before .before in
     let l = o .before .before .before .before .before in
@@ -129,16 +107,15 @@ loop-again c = let o = c .before .before in
       λ g z. let i = l .loop .inv .1 g z in (
         omega (arith, i .0),
         rw cov
-            (count-next g (s .args .bytes .now) (l .loop .at) (l .loop .left) (i .0) (o .before .before .before .before .loop-test .taken) (l .loop .n) (o .ones-before .result) (length (numbersOf g (words16 (s .args .bytes .now)))) (more o) (i .1) e),
+            (count-next g (s .args .bytes .now) (l .loop .at) (l .loop .left) (i .0) (omega (arith, o .before .before .before .before .loop-test .taken)) (l .loop .n) (o .ones-before .result) (length (numbersOf g (words16 (s .args .bytes .now)))) (more o) (i .1) e),
       ),
     )
 
--- src/lib.rt:65:1
 returns-2 : tie.Need-returns-2 Inv-loop μ-loop
 returns-2 c = let l = c .before in
     let s = entry l in
     let g = s .args .g in
-    let k = here-end g (s .args .bytes .now) (l .loop .at) (l .loop .left) (c .loop-test .left) in
+    let k = here-end g (s .args .bytes .now) (l .loop .at) (l .loop .left) (omega (arith, c .loop-test .left)) in
     omega (arith, ap length k, own l .1)
 
 pub count-standard-spec : {M : Type 1} → statement M

@@ -1,11 +1,9 @@
+-- `rle::count_words` meets its contract: two bytes make a word. Assumes nothing.
 use Rattle.utils.proofs.BytesLaws.{length-pairUp}
 use mathlib.Core.Path.{sym}
 use Rattle.rle.proofs.count_words.Statement.{statement}
 use Rattle.rle.proofs.count_words.Tie as tie
-use Rattle.rle.proofs.count_words.Reads as reads
-use Rattle.rle.proofs.count_words.Lts as lts
 
--- src/lib.rt:148:1
 returns : tie.Need-returns
 returns c = sym (length-pairUp 256 (c .args .bytes .now))
 

@@ -1,58 +1,71 @@
-use mathlib.Core.Path.{refl, sym, ap, _∙_}
-use native.Mathlib.Omega.{arith}
-use lib.ListN.{take}
-use Rattle.refusals.specs.Answers.{shown}
-use Rattle.wire.specs.Bytes.{words16}
-use Rattle.old_crate.specs.Crate.{crateNumbersFrom}
-use Rattle.base.proofs.Answering.{listed, full}
+-- `rle::fill_crate` meets its contract: there is room for as many as the words can list, or for as many as were counted; else it is refused. Assumes nothing.
 use Rattle.rle.proofs.CrateTurn.{part, length-part}
+use Rattle.rle.proofs.CrateLaws.{length-crate}
+use Rattle.base.proofs.Answering.{listed, full}
+use Rattle.old_crate.specs.Crate.{crateNumbersFrom}
+use Rattle.wire.specs.Bytes.{words16}
+use Rattle.refusals.specs.Answers.{shown}
+use lib.ListN.{length, take}
+use mathlib.Core.List.{List}
+use native.Mathlib.Omega.{arith}
+use mathlib.Core.Path.{refl}
+use mathlib.Core.Logic.{⊎-elim}
+use Prim.Native.Nat.{ℕ, _≤_}
 use borrow.Author.Needs.{needs}
 use Rattle.rle.proofs.fill_crate.Statement.{statement}
 use Rattle.rle.proofs.fill_crate.Tie as tie
-use Rattle.rle.proofs.fill_crate.Reads as reads
-use Rattle.rle.proofs.fill_crate.Lts as lts
-use Rattle.rle.proofs.list.list_crate.Reads as list-crate-reads
-use Rattle.rle.proofs.list.needed_crate.Reads as needed-crate-reads
-use Rattle.rle.proofs.word.least.Reads as least-reads
 
--- src/lib.rt:136:9
+-- the bytes that are read are no more than the longest packet has
+short : (c : tie.After-part) → let f = c .before in length (take (f .least .result) (f .before .before .before .args .bytes .now)) ≤ 262144
+short c = let f = c .before in
+    omega (arith, length-part 262144 (f .least .result) (f .before .before .before .args .bytes .now) (f .least .ensures), f .least .ensures)
+
+-- the numbers of those
+abbrev whole : tie.After-least → List ℕ
+whole f = let a = f .before .before .before .args in crateNumbersFrom (a .end) (a .thinning) (a .begin) (words16 (take (f .least .result) (a .bytes .now)))
+
+-- there is room: for as many as the words can list, or for as many as were counted
+room : (c : tie.Joined1) → let f = c .before .before .before in length (whole f) ≤ length (f .before .before .before .args .out .now)
+room c = let m = c .before in
+    let f = m .before .before in
+    let a = f .before .before .before .args in
+    ⊎-elim
+    (λ w. omega (arith, w .1 .ensures, w .2 .left))
+    (λ w. omega (arith, w .left, m .at-most .ensures, length-crate (a .end) (a .thinning) (a .begin) (words16 (take (f .least .result) (a .bytes .now))) (omega arith)))
+    (c .if1 .came)
+
 least-requires : tie.Need-least-requires
 least-requires c κs = search needs
 
--- src/lib.rt:137:9
 slice-aggregate-part : tie.Need-slice-aggregate-part
-slice-aggregate-part c = length-part 262144 (c .before .least .result) (c .before .before .before .before .args .bytes .now) (c .before .least .ensures)
+slice-aggregate-part c = let a = c .before .before .before .before .args in length-part 262144 (c .before .least .result) (a .bytes .now) (c .before .least .ensures)
 
--- src/lib.rt:138:9
-needed-crate-requires : tie.Need-needed-crate-requires
-needed-crate-requires c κs = omega (arith, length-part 262144 (c .before .least .result) (c .before .before .before .before .args .bytes .now) (c .before .least .ensures), c .before .least .ensures)
+at-most-requires : tie.Need-at-most-requires
+at-most-requires c κs = short c
 
--- src/lib.rt:140:22
+tally-crate-requires : tie.Need-tally-crate-requires
+tally-crate-requires c κs = short (c .before .before)
+
+returns : tie.Need-returns
+returns c = let n = c .before in
+    let f = n .before .before .before .before in
+    let a = f .before .before .before .args in
+    rw (← part 262144 (f .least .result) (a .bytes .now) (f .least .ensures))
+    (full (shown (whole f)) (a .out .now) (whole f) _ refl (n .tally-crate .ensures) (c .if2 .taken))
+
 list-crate-requires : tie.Need-list-crate-requires
-list-crate-requires c κs = c .before .before .needed-crate .ensures .fits (c .before .if1 .taken)
+list-crate-requires c κs = room (c .before)
 
--- src/lib.rt:133:1
 same-length : tie.Need-same-length
 same-length c = search needs
 
--- src/lib.rt:133:1
-returns : tie.Need-returns
-returns c = let r = c .before .before in
-    let n = r .before .before .before in
-    let f = n .before .before in
-    let a = f .before .before .before .args in
-    let whole = crateNumbersFrom (a .end) (a .thinning) (a .begin) (words16 (take (f .least .result) (a .bytes .now))) in
-    rw (← part 262144 (f .least .result) (a .bytes .now) (f .least .ensures))
-    (listed (shown whole) (a .out .now) whole _ _ refl (r .list-crate .ensures .0) (n .needed-crate .ensures .fits (r .before .before .if1 .taken)) (r .list-crate .ensures .1))
-
--- src/lib.rt:133:1
 returns-2 : tie.Need-returns-2
-returns-2 c = let n = c .before in
-    let f = n .before .before in
+returns-2 c = let r = c .before .before in
+    let j = r .before .before in
+    let f = j .before .before .before in
     let a = f .before .before .before .args in
-    let whole = crateNumbersFrom (a .end) (a .thinning) (a .begin) (words16 (take (f .least .result) (a .bytes .now))) in
     rw (← part 262144 (f .least .result) (a .bytes .now) (f .least .ensures))
-    (full (shown whole) (a .out .now) whole _ refl (n .needed-crate .ensures .exact (c .if1 .left)) (c .if1 .left))
+    (listed (shown (whole f)) (a .out .now) (whole f) _ _ refl (r .list-crate .ensures .0) (room j) (r .list-crate .ensures .1))
 
 pub fill-crate-spec : {M : Type 1} → statement M
 fill-crate-spec =
@@ -60,8 +73,9 @@ fill-crate-spec =
     (tie.spec
     least-requires
     slice-aggregate-part
-    needed-crate-requires
+    at-most-requires
+    tally-crate-requires
+    returns
     list-crate-requires
     same-length
-    returns
     returns-2)

@@ -1,44 +1,59 @@
+-- `rle::fill_standard` meets its contract: there is room for all that are inside, or for as many as were counted; else it is refused. Assumes nothing.
+use Rattle.rle.proofs.NumbersLaws.{length-numbers}
 use Rattle.base.proofs.Answering.{listed, full}
 use Rattle.standard.specs.Standard.{numbersOf}
 use Rattle.wire.specs.Bytes.{words16}
 use Rattle.refusals.specs.Answers.{shown}
+use lib.ListN.{length}
+use Prim.Native.Nat.{_≤_}
 use native.Mathlib.Omega.{arith}
-use mathlib.Core.Path.{refl, sym, ap, _∙_}
+use mathlib.Core.Logic.{⊎-elim}
+use mathlib.Core.Path.{refl}
 use borrow.Author.Needs.{needs}
 use Rattle.rle.proofs.fill_standard.Statement.{statement}
 use Rattle.rle.proofs.fill_standard.Tie as tie
-use Rattle.rle.proofs.fill_standard.Reads as reads
-use Rattle.rle.proofs.fill_standard.Lts as lts
-use Rattle.rle.proofs.count_standard.Reads as count-standard-reads
-use Rattle.rle.proofs.list.list_standard.Reads as list-standard-reads
 
--- src/lib.rt:88:9
+-- there is room: for all that are inside, or for as many as were counted
+room : (c : tie.Joined1) → let a = c .before .before .before .before .args in length (numbersOf (a .g) (words16 (a .bytes .now))) ≤ length (a .out .now)
+room c = let v = c .before in
+    let a = v .before .before .before .args in
+    ⊎-elim
+    (λ w. omega (arith, w .1 .ensures, w .2 .left))
+    (λ w. omega (arith, w .left, v .inside-count .ensures, length-numbers (a .g) (words16 (a .bytes .now))))
+    (c .if1 .came)
+
+inside-count-requires : tie.Need-inside-count-requires
+inside-count-requires c κs = search needs
+
 count-standard-requires : tie.Need-count-standard-requires
 count-standard-requires c κs = search needs
 
--- src/lib.rt:90:22
-list-standard-requires : tie.Need-list-standard-requires
-list-standard-requires c κs = search needs
+returns : tie.Need-returns
+returns c = let n = c .before in
+    let a = n .before .before .before .before .before .args in
+    let whole = numbersOf (a .g) (words16 (a .bytes .now)) in
+    full (shown whole) (a .out .now) whole _ refl (n .count-standard .ensures) (c .if2 .taken)
 
--- src/lib.rt:85:1
+list-standard-requires : tie.Need-list-standard-requires
+list-standard-requires c κs = room (c .before)
+
 same-length : tie.Need-same-length
 same-length c = search needs
 
--- src/lib.rt:85:1
-returns : tie.Need-returns
-returns c = let r = c .before .before in
-    let n = r .before .before .before in
-    let a = n .before .before .before .args in
-    let whole = numbersOf (a .g) (words16 (a .bytes .now)) in
-    listed (shown whole) (a .out .now) whole _ _ refl (r .list-standard .ensures .0) (omega (arith, n .count-standard .ensures, r .before .before .if1 .taken)) (r .list-standard .ensures .1)
-
--- src/lib.rt:85:1
 returns-2 : tie.Need-returns-2
-returns-2 c = let a = c .before .before .before .before .args in
+returns-2 c = let r = c .before .before in
+    let j = r .before .before in
+    let a = j .before .before .before .before .args in
     let whole = numbersOf (a .g) (words16 (a .bytes .now)) in
-    full (shown whole) (a .out .now) whole _ refl (c .before .count-standard .ensures) (c .if1 .left)
+    listed (shown whole) (a .out .now) whole _ _ refl (r .list-standard .ensures .0) (room j) (r .list-standard .ensures .1)
 
 pub fill-standard-spec : {M : Type 1} → statement M
 fill-standard-spec =
     tie.close
-    (tie.spec count-standard-requires list-standard-requires same-length returns returns-2)
+    (tie.spec
+    inside-count-requires
+    count-standard-requires
+    returns
+    list-standard-requires
+    same-length
+    returns-2)

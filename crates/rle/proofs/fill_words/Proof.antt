@@ -1,29 +1,22 @@
+-- `rle::fill_words` meets its contract: there is room, or it is refused. Assumes nothing.
 use Rattle.base.proofs.Answering.{listed, full}
 use Rattle.wire.specs.Bytes.{words16}
 use Rattle.refusals.specs.Answers.{shown}
 use native.Mathlib.Omega.{arith}
-use mathlib.Core.Path.{refl, sym, ap, _∙_}
+use mathlib.Core.Path.{refl}
 use borrow.Author.Needs.{needs}
 use Rattle.rle.proofs.fill_words.Statement.{statement}
 use Rattle.rle.proofs.fill_words.Tie as tie
-use Rattle.rle.proofs.fill_words.Reads as reads
-use Rattle.rle.proofs.fill_words.Lts as lts
-use Rattle.rle.proofs.count_words.Reads as count-words-reads
-use Rattle.rle.proofs.list.list_words.Reads as list-words-reads
 
--- src/lib.rt:158:9
 count-words-requires : tie.Need-count-words-requires
 count-words-requires c κs = search needs
 
--- src/lib.rt:160:22
 list-words-requires : tie.Need-list-words-requires
 list-words-requires c κs = search needs
 
--- src/lib.rt:155:1
 same-length : tie.Need-same-length
 same-length c = search needs
 
--- src/lib.rt:155:1
 returns : tie.Need-returns
 returns c = let r = c .before .before in
     let n = r .before .before .before in
@@ -31,7 +24,6 @@ returns c = let r = c .before .before in
     let whole = words16 (a .bytes .now) in
     listed (shown whole) (a .out .now) whole _ _ refl (r .list-words .ensures .0) (omega (arith, n .count-words .ensures, r .before .before .if1 .taken)) (r .list-words .ensures .1)
 
--- src/lib.rt:155:1
 returns-2 : tie.Need-returns-2
 returns-2 c = let a = c .before .before .before .before .args in
     let whole = words16 (a .bytes .now) in

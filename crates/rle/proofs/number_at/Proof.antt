@@ -1,3 +1,4 @@
+-- `rle::number_at` meets its contract: a doubling in 64 bits, cut to 16, is one in 16. Assumes nothing.
 use Rattle.standard.specs.Range.{numberOf, offsetOf}
 use lib.Pow.{mod-mod-pow}
 use native.Mathlib.Nat.{add-mod-mod}
@@ -5,27 +6,19 @@ use Prim.Native.Nat.{_*_, _^_}
 use borrow.Author.Needs.{needs}
 use Rattle.rle.proofs.number_at.Statement.{statement}
 use Rattle.rle.proofs.number_at.Tie as tie
-use Rattle.rle.proofs.number_at.Reads as reads
-use Rattle.rle.proofs.number_at.Lts as lts
-use Rattle.utils.proofs.times_two_to.Reads as times-two-to-reads
 
--- src/lib.rt:63:7
 cast-result : tie.Need-cast-result
 cast-result c = search needs
 
--- src/lib.rt:63:24
 times-two-to-requires : tie.Need-times-two-to-requires
 times-two-to-requires c κs = search needs
 
--- src/lib.rt:63:7
 add-result : tie.Need-add-result
 add-result c = search needs
 
--- src/lib.rt:63:5
 cast-result-2 : tie.Need-cast-result-2
 cast-result-2 c = search needs
 
--- src/lib.rt:59:1
 returns : tie.Need-returns
 unfolding numberOf offsetOf
 returns c = let a = c .before .args in

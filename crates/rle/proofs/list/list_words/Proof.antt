@@ -1,16 +1,13 @@
-use Prim.Native.Nat.{_+_, _-_, _≤_, _<_}
-use mathlib.Core.Path.{_≡_, refl, sym, ap, _∙_}
+-- `rle::list::list_words` meets its contract: the loop fills from the front. Assumes nothing.
+use Prim.Native.Nat.{_-_, _≤_}
 use native.Mathlib.Omega.{arith}
 use borrow.Author.Needs.{needs}
 use lib.ListN.{length, drop}
-use Rattle.wire.specs.Bytes.{words16, be16}
-use Rattle.base.proofs.Filling.{Filling, start, skip, moved, within, put, done}
+use Rattle.wire.specs.Bytes.{words16}
+use Rattle.base.proofs.Filling.{Filling, start, within, put, done}
 use Rattle.utils.proofs.BytesLaws.{pairUp-cons, pairUp-end}
 use Rattle.rle.proofs.list.list_words.Statement.{statement}
 use Rattle.rle.proofs.list.list_words.Tie as tie
-use Rattle.rle.proofs.list.list_words.Reads as reads
-use Rattle.rle.proofs.list.list_words.Lts as lts
-use Rattle.utils.proofs.pair.Reads as pair-reads
 
 abbrev Inv-loop : tie.InvT-loop
 Inv-loop bytes out₀ at₀ n₀ out at n =
@@ -19,63 +16,49 @@ Inv-loop bytes out₀ at₀ n₀ out at n =
 abbrev μ-loop : tie.MeasureT-loop
 μ-loop bytes out₀ at₀ n₀ out at n = length bytes - at
 
--- src/list.rt:93:5
 loop-holds : tie.Need-loop-holds Inv-loop μ-loop
 loop-holds c = (omega arith, omega arith, start (c .before .before .pre))
 
--- src/list.rt:93:11
 add-loop : tie.Need-add-loop Inv-loop μ-loop
 add-loop c = search needs
 
--- src/list.rt:94:30
 shared-slice-read-pair : tie.Need-shared-slice-read-pair Inv-loop μ-loop
 shared-slice-read-pair c = search needs
 
--- src/list.rt:94:47
 add-pair : tie.Need-add-pair Inv-loop μ-loop
 add-pair c = search needs
 
--- src/list.rt:94:41
 shared-slice-read-pair-2 : tie.Need-shared-slice-read-pair-2 Inv-loop μ-loop
 shared-slice-read-pair-2 c = search needs
 
--- src/list.rt:94:18
 pair-requires : tie.Need-pair-requires Inv-loop μ-loop
 pair-requires c κs = search needs
 
--- src/list.rt:94:9
 mul-out : tie.Need-mul-out Inv-loop μ-loop
 mul-out c = search needs
 
--- src/list.rt:94:9
 slice-write-out : tie.Need-slice-write-out Inv-loop μ-loop
 slice-write-out c = let l = c .before .before .before .before in
     let a = l .before .before .before .args in
     within (pairUp-cons 256 (a .bytes .now) (l .loop .at) (omega (arith, c .before .before .before .loop-test .taken))) (l .loop .inv .2)
 
--- src/list.rt:95:9
 add-n : tie.Need-add-n Inv-loop μ-loop
 add-n c = search needs
 
--- src/list.rt:96:9
 add-at : tie.Need-add-at Inv-loop μ-loop
 add-at c = search needs
 
--- src/list.rt:93:5
 loop-less : tie.Need-loop-less Inv-loop μ-loop
 loop-less c = search needs
 
--- src/list.rt:93:5
 loop-again : tie.Need-loop-again Inv-loop μ-loop
 loop-again c = let l = c .before .before .before .before in
     let a = l .before .before .before .args in
     (omega arith, omega arith, rw (c .pair .ensures) (put (pairUp-cons 256 (a .bytes .now) (l .loop .at) (omega (arith, c .before .before .before .loop-test .taken))) (l .loop .inv .2)))
 
--- src/list.rt:87:1
 same-length : tie.Need-same-length Inv-loop μ-loop
 same-length c = search needs
 
--- src/list.rt:87:1
 returns : tie.Need-returns Inv-loop μ-loop
 returns c = let l = c .before in
     let a = l .before .before .before .args in

@@ -1,132 +1,100 @@
-use lib.Pow.{pow-pos, pow-mono}
-use Prim.Native.Nat.{ℕ, suc, _+_, _*_, _-_, _%_, _^_, _≤_, _<_}
-use mathlib.Core.Path.{_≡_, refl, sym, ap, _∙_}
+-- `rle::word::store_vector` meets its contract: what is still to be stored are the numbers of the ones left in v. Assumes nothing.
+use Prim.Native.Nat.{_+_, _-_, _%_, _^_, _*_, _<_}
 use mathlib.Core.List.{_∷_}
+use mathlib.Core.Path.{_≡_, ap}
 use native.Mathlib.Omega.{arith}
 use borrow.Author.Needs.{needs}
-use lib.ListN.{length, take}
+use lib.ListN.{take}
+use lib.Pow.{shr-lt, pow-pos}
 use Rattle.standard.specs.Chunks.{valuesIn}
 use Rattle.rle.specs.Along.{along}
-use Rattle.rle.proofs.PlacedLaws.{placed, placed-none, placed-top, top-within, vector-placed, placed-bits}
-use Rattle.rle.proofs.Storing.{Storing, start, skip, moved, within, put, done}
+use Rattle.rle.proofs.DigitLaws.{digits, digits-vector, top-below, along-none, along-top}
+use Rattle.rle.proofs.Storing.{Storing, start, skip, within, put, done}
 use Rattle.rle.proofs.word.store_vector.Statement.{statement}
 use Rattle.rle.proofs.word.store_vector.Tie as tie
-use Rattle.rle.proofs.word.store_vector.Reads as reads
-use Rattle.rle.proofs.word.store_vector.Lts as lts
-use Rattle.chunk.proofs.vector_bits.Reads as vector-bits-reads
-use Rattle.rle.proofs.word.steps_on.Reads as steps-on-reads
-use Rattle.rle.proofs.word.top_bit.Reads as top-bit-reads
-use Rattle.rle.proofs.word.without.Reads as without-reads
 
 abbrev Inv-loop : tie.InvT-loop
-Inv-loop out₀ at w room first step places b₀ n₀ out b n =
-    (b < 2 ^ room) × (n ≤ length out) × Storing out₀ at (along step first (take room (valuesIn w))) out (placed step first room b) n
+Inv-loop out₀ at w room first step v₀ n₀ out v n =
+    (v < 2 ^ room) × Storing out₀ at (along step first (take room (valuesIn w))) out (along step first (digits room v)) n
 
 abbrev μ-loop : tie.MeasureT-loop
-μ-loop out₀ at w room first step places b₀ n₀ out b n = b
+μ-loop out₀ at w room first step v₀ n₀ out v n = v
 
--- the loop's head and the function's entry, from where the highest bit is known
-abbrev head : tie.After-top-bit Inv-loop μ-loop → tie.At-loop Inv-loop μ-loop
-head c = c .before .before
+-- the highest one comes next
+next : (c : tie.After-top-bit Inv-loop μ-loop) → let l = c .before .before in let a = l .before .before .before .args in
+    along (a .step) (a .first) (digits (a .room) (l .loop .v))
+    ≡ (a .first + (a .room - 1 - c .top-bit .result) * a .step) % 65536 ∷ along (a .step) (a .first) (digits (a .room) (l .loop .v - 2 ^ c .top-bit .result))
+next c = let l = c .before .before in let a = l .before .before .before .args in
+    along-top (a .step) (a .first) (a .room) (l .loop .v) (c .top-bit .result) (omega arith) (l .loop .inv .0) (c .top-bit .ensures)
 
-abbrev entry : tie.At-loop Inv-loop μ-loop → tie.Start Inv-loop μ-loop
-entry l = l .before .before .before
+-- it is one of the places asked
+asked : (c : tie.After-top-bit Inv-loop μ-loop) → let l = c .before .before in c .top-bit .result < l .before .before .before .args .room
+asked c = let l = c .before .before in top-below (l .before .before .before .args .room) (l .loop .inv .0) (c .top-bit .ensures)
 
--- it is one of the places
-inside : (c : tie.After-top-bit Inv-loop μ-loop) → c .top-bit .result < entry (head c) .args .room
-inside c = let l = head c in let j = c .top-bit .result in
-    let k : suc j ≡ j + 1 = omega arith in
-    top-within 0 j (l .loop .b) (c .top-bit .ensures .0 .0) (rw k (c .top-bit .ensures .0 .1)) (entry l .args .room) (l .loop .inv .0)
-
--- its number is the next
-next : (c : tie.After-steps-on Inv-loop μ-loop) → let l = head (c .before) in let a = entry l .args in
-    placed (a .step) (a .first) (a .room) (l .loop .b) ≡ c .steps-on .result ∷ placed (a .step) (a .first) (a .room) (l .loop .b - 2 ^ c .before .top-bit .result)
-next c = let l = head (c .before) in let a = entry l .args in let j = c .before .top-bit .result in
-    let k : suc j ≡ j + 1 = omega arith in
-    placed-top (a .step) j (l .loop .b) (c .before .top-bit .ensures .0 .0) (rw k (c .before .top-bit .ensures .0 .1)) (a .room) (a .first) (omega arith) (inside (c .before))
-    ∙ ap (λ (x : ℕ). x ∷ placed (a .step) (a .first) (a .room) (l .loop .b - 2 ^ j)) (sym (c .steps-on .ensures))
-
--- src/word.rt:84:18
-cast-places : tie.Need-cast-places Inv-loop μ-loop
-cast-places c = search needs
-
--- src/word.rt:85:18
 vector-bits-requires : tie.Need-vector-bits-requires Inv-loop μ-loop
 vector-bits-requires c κs = search needs
 
--- src/word.rt:85:18
-cast-b : tie.Need-cast-b Inv-loop μ-loop
-cast-b c = search needs
+cast-v : tie.Need-cast-v Inv-loop μ-loop
+cast-v c = search needs
 
--- src/word.rt:85:52
-sub-b : tie.Need-sub-b Inv-loop μ-loop
-sub-b c = search needs
+sub-v : tie.Need-sub-v Inv-loop μ-loop
+sub-v c = search needs
 
--- src/word.rt:85:17
-shr-b : tie.Need-shr-b Inv-loop μ-loop
-shr-b c = search needs
+cast-v-2 : tie.Need-cast-v-2 Inv-loop μ-loop
+cast-v-2 c = search needs
 
--- src/word.rt:87:5
+shr-v : tie.Need-shr-v Inv-loop μ-loop
+shr-v c = search needs
+
 loop-holds : tie.Need-loop-holds Inv-loop μ-loop
 loop-holds c = let s = c .before .before in
     let a = s .args in
-    let e = vector-placed (a .step) (a .first) (a .room) (a .w) (s .pre .0) (s .pre .1) in
-    rw (c .vector-bits .ensures) (placed-bits (a .room) (a .w) (s .pre .1), omega (arith, s .pre .2), skip e (start (s .pre .2)))
+    let e : c .vector-bits .result ≡ a .w - 32768 = omega (arith, c .vector-bits .ensures, s .pre .0) in
+    let f : a .room + (15 - a .room) ≡ 15 = omega (arith, s .pre .1) in (
+      shr-lt (a .room) (15 - a .room) (rw f (let k : c .vector-bits .result < 2 ^ 15 = omega (arith, c .vector-bits .ensures) in k)),
+      rw e (skip (ap (along (a .step) (a .first)) (digits-vector (a .w) (s .pre .0) (a .room) (s .pre .1))) (start (s .pre .2))),
+    )
 
--- src/word.rt:88:13
 top-bit-requires : tie.Need-top-bit-requires Inv-loop μ-loop
-top-bit-requires c κs = let l = c .before in
-    let s = entry l in
-    let up : 2 ^ (s .args .room) ≤ 2 ^ 15 = pow-mono (s .pre .1) in
-    (omega (arith, c .loop-test .taken), omega (arith, up, l .loop .inv .0))
+top-bit-requires c κs = search needs
 
--- src/word.rt:89:40
-sub-steps-on : tie.Need-sub-steps-on Inv-loop μ-loop
-sub-steps-on c = omega (arith, inside c)
+sub-number-on : tie.Need-sub-number-on Inv-loop μ-loop
+sub-number-on c = omega (arith, asked c)
 
--- src/word.rt:89:40
-sub-steps-on-2 : tie.Need-sub-steps-on-2 Inv-loop μ-loop
-sub-steps-on-2 c = omega (arith, inside c)
+sub-number-on-2 : tie.Need-sub-number-on-2 Inv-loop μ-loop
+sub-number-on-2 c = omega (arith, asked c)
 
--- src/word.rt:89:18
-steps-on-requires : tie.Need-steps-on-requires Inv-loop μ-loop
-steps-on-requires c κs = omega (arith, entry (head c) .pre .1)
+number-on-requires : tie.Need-number-on-requires Inv-loop μ-loop
+number-on-requires c κs = let s = c .before .before .before .before .before in omega (arith, s .pre .1)
 
--- src/word.rt:89:9
 mul-out : tie.Need-mul-out Inv-loop μ-loop
 mul-out c = search needs
 
--- src/word.rt:89:9
 slice-write-out : tie.Need-slice-write-out Inv-loop μ-loop
-slice-write-out c = within (next c) (head (c .before) .loop .inv .2)
+slice-write-out c = within (next (c .before)) (c .before .before .before .loop .inv .1)
 
--- src/word.rt:90:9
-without-requires : tie.Need-without-requires Inv-loop μ-loop
-without-requires c κs = search needs
+without-top-requires : tie.Need-without-top-requires Inv-loop μ-loop
+without-top-requires c κs = search needs
 
--- src/word.rt:91:9
 add-n : tie.Need-add-n Inv-loop μ-loop
-add-n c = search needs
+add-n c = omega (arith, within (next (c .before .before)) (c .before .before .before .before .loop .inv .1))
 
--- src/word.rt:87:5
 loop-less : tie.Need-loop-less Inv-loop μ-loop
-loop-less c = let l = head (c .before .before) in omega (arith, c .without .ensures, pow-pos (c .before .before .top-bit .result), c .before .before .top-bit .ensures .0 .0)
+loop-less c = let t = c .before .before in omega (arith, c .without-top .ensures, t .top-bit .ensures .least, pow-pos (t .top-bit .result))
 
--- src/word.rt:87:5
 loop-again : tie.Need-loop-again Inv-loop μ-loop
-loop-again c = let l = head (c .before .before) in
-    let f = put (next (c .before)) (l .loop .inv .2) in
-    rw (c .without .ensures) (omega (arith, l .loop .inv .0), omega (arith, f .count, f .same, f .room), f)
+loop-again c = let t = c .before .before in
+    let l = t .before .before in
+    let f = put (next t) (l .loop .inv .1) in
+    (omega (arith, c .without-top .ensures, l .loop .inv .0), rw (c .before .number-on .ensures, c .without-top .ensures) f)
 
--- src/word.rt:80:1
 same-length : tie.Need-same-length Inv-loop μ-loop
 same-length c = search needs
 
--- src/word.rt:80:1
 returns : tie.Need-returns Inv-loop μ-loop
 returns c = let l = c .before in
-    let a = entry l .args in
-    done (placed-none (a .step) (a .first) (a .room) (l .loop .b) (c .loop-test .left)) (l .loop .inv .2)
+    let a = l .before .before .before .args in
+    done (rw (c .loop-test .left) (along-none (a .step) (a .first) (a .room))) (l .loop .inv .1)
 
 pub store-vector-spec : {M : Type 1} → statement M
 store-vector-spec =
@@ -134,19 +102,19 @@ store-vector-spec =
     (tie.spec
     Inv-loop
     μ-loop
-    cast-places
     vector-bits-requires
-    cast-b
-    sub-b
-    shr-b
+    cast-v
+    sub-v
+    cast-v-2
+    shr-v
     loop-holds
     top-bit-requires
-    sub-steps-on
-    sub-steps-on-2
-    steps-on-requires
+    sub-number-on
+    sub-number-on-2
+    number-on-requires
     mul-out
     slice-write-out
-    without-requires
+    without-top-requires
     add-n
     loop-less
     loop-again

@@ -1,41 +1,31 @@
+-- `rle::word::store_word` meets its contract: by the word's kind. Assumes nothing.
 use Rattle.rle.proofs.WordLaws.{word-zeros, word-ones, word-vector}
 use Rattle.rle.proofs.ListingLaws.{length-progression}
-use Rattle.rle.specs.Along.{along, progression}
+use Rattle.rle.specs.Along.{along}
 use Rattle.standard.specs.Chunks.{valuesIn}
 use lib.ListN.{length, take}
 use native.Mathlib.Omega.{arith}
 use mathlib.Core.Path.{_≡_, refl, sym, ap, _∙_}
-use Prim.Native.Nat.{_+_, _≤_, min, _%_}
+use Prim.Native.Nat.{min, _%_}
 use native.Mathlib.Nat.{add-zero}
 use borrow.Author.Needs.{needs}
 use Rattle.rle.proofs.word.store_word.Statement.{statement}
 use Rattle.rle.proofs.word.store_word.Tie as tie
-use Rattle.rle.proofs.word.store_word.Reads as reads
-use Rattle.rle.proofs.word.store_word.Lts as lts
-use Rattle.chunk.proofs.run_length.Reads as run-length-reads
-use Rattle.rle.proofs.word.least.Reads as least-reads
-use Rattle.rle.proofs.word.store_run.Reads as store-run-reads
-use Rattle.rle.proofs.word.store_vector.Reads as store-vector-reads
 
--- src/lib.rt:129:9
 returns : tie.Need-returns
 returns c = let a = c .before .before .args in
     let e = word-zeros (a .step) (a .first) (a .room) (a .w) (c .if1 .taken) in
     rw e (record { stored = refl; past = sym (add-zero (a .at)) })
 
--- src/lib.rt:132:47
 run-length-requires : tie.Need-run-length-requires
 run-length-requires c κs = search needs
 
--- src/lib.rt:132:47
 cast-least : tie.Need-cast-least
 cast-least c = search needs
 
--- src/lib.rt:132:35
 least-requires : tie.Need-least-requires
 least-requires c κs = search needs
 
--- src/lib.rt:132:9
 store-run-requires : tie.Need-store-run-requires
 store-run-requires c κs = let t = c .before .before .before in
     let s = t .before .before .before in
@@ -44,11 +34,9 @@ store-run-requires c κs = let t = c .before .before .before in
     let k : length (along (a .step) (a .first) (take (a .room) (valuesIn (a .w)))) ≡ min (a .room) (a .w % 16384) = ap length e ∙ length-progression _ _ _ in
     omega (arith, s .pre, c .least .ensures, c .before .run-length .ensures, k)
 
--- src/lib.rt:132:9
 same-length : tie.Need-same-length
 same-length c = search needs
 
--- src/lib.rt:132:9
 returns-2 : tie.Need-returns-2
 returns-2 c = let r = c .before .before in
     let t = r .before .before .before .before in
@@ -57,22 +45,18 @@ returns-2 c = let r = c .before .before in
     rw (word-ones (a .step) (a .first) (a .room) (a .w) (t .before .if1 .left) (t .if2 .taken), ← r .before .before .run-length .ensures, ← r .before .least .ensures)
     (r .store-run .ensures)
 
--- src/lib.rt:134:30
 least-requires-2 : tie.Need-least-requires-2
 least-requires-2 c κs = search needs
 
--- src/lib.rt:134:5
 store-vector-requires : tie.Need-store-vector-requires
 store-vector-requires c κs = let t = c .before .before in
     let s = t .before .before .before in
     let a = s .args in
     (t .if2 .left, omega arith, rw (c .least2 .ensures, word-vector (a .step) (a .first) (a .room) (a .w) (t .if2 .left)) (s .pre))
 
--- src/lib.rt:117:1
 same-length-2 : tie.Need-same-length-2
 same-length-2 c = search needs
 
--- src/lib.rt:117:1
 returns-3 : tie.Need-returns-3
 returns-3 c = let r = c .before .before in
     let t = r .before .before .before in

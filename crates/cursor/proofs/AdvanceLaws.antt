@@ -1,0 +1,88 @@
+-- The ways in which a cursor's call ends: the one place that unfolds `advanceFault`, `advanceOf` and `stretchFilled`. Assumes nothing.
+--     range-fits               no range has over 65,536 positions inside
+--     advancing-*              of words in a range: 16, 11, or a stretch
+--     stretched-*              of a block's view: 10 and 7, or the words
+--     stretched-at, -missing   of a packet and a block's index
+use Prim.Native.Nat.{ℕ, _+_, _-_, min, _≤_, _<_}
+use mathlib.Core.Path.{_≡_, sym, ap, _∙_}
+use mathlib.Core.Bool.{true, false}
+use mathlib.Core.List.{List}
+use native.Mathlib.Omega.{arith}
+use lib.ListN.{length, take, drop, length-drop, drop-of-length-le}
+use lib.Seq.{take-all}
+use lib.Dec.{ltb, eqb}
+use borrow.Author.Tests.{le-leb, lt-leb, ltb-true, ltb-false}
+use Rattle.base.proofs.Tests.{both, either}
+use Rattle.refusals.specs.declared.Refusal.{Refusal}
+use Rattle.refusals.specs.declared.Refusal.the-variants.{NoPlace, NoRoom}
+use Rattle.refusals.specs.declared.Checked.the-variants.{Fine, Unfit}
+use Rattle.wire.specs.declared.Fields.{Fields}
+use Rattle.wire.specs.declared.Located.the-variants.{At, Missing}
+use Rattle.wire.specs.declared.Reading.the-variants.{Standard}
+use Rattle.wire.specs.Packet.{locate, part}
+use Rattle.wire.specs.Block.{fieldsAt, checkOf}
+use Rattle.standard.specs.declared.Range.{Range}
+use Rattle.standard.specs.Range.{circle, rangeOf}
+use Rattle.standard.specs.Standard.{standardWords}
+use Rattle.rle.specs.Inside.{insideCount}
+use Rattle.rle.proofs.InsideLaws.{inside-count-le}
+use Rattle.cursors.specs.declared.Cursor.{Cursor}
+use Rattle.cursors.specs.declared.Stretch.{Stretch}
+use Rattle.cursors.specs.declared.Advanced.{Advanced}
+use Rattle.cursors.specs.declared.Advanced.the-variants.{Moved, Stuck}
+use Rattle.cursors.specs.Cursor.{legal, advanceFault, advanceOf, stretchFilled, Stretched, StretchedIn}
+use Rattle.cursor.specs.Steps.{Gone, Advancing}
+
+-- no range has over 65,536 positions inside
+range-size : (f : Fields) → rangeOf f .size ≤ circle
+unfolding rangeOf
+range-size f = both (λ (n : ℕ). n ≤ circle) (eqb (f .begin) (f .end)) (λ _. omega arith) (λ _. omega arith)
+
+pub range-fits : (f : Fields) → insideCount (rangeOf f) ≤ circle
+range-fits f = omega (arith, range-size f, inside-count-le (rangeOf f))
+
+-- the part that is lent behind the fields; a block that is shorter than they are has no words
+pub words-behind : (v : List ℕ) (b : ℕ) → b ≡ min 12 (length v) → take (length v - b) (drop b v) ≡ drop 12 v
+words-behind v b e =
+    take-all (length v - b) (drop b v) (omega (arith, length-drop b v))
+    ∙ either (ltb (length v) 12)
+    (λ t. let h : length v < 12 = ltb-true _ _ t in
+    drop-of-length-le v {i = b} (omega arith) ∙ sym (drop-of-length-le v {i = 12} (omega arith)))
+    (λ f. let h : 12 ≤ length v = ltb-false _ _ f in let k : b ≡ 12 = omega arith in rw k)
+
+-- ---- words in a range
+
+module _ (g : Range) (ws : List ℕ) (c : Cursor) (budget : ℕ) (out : List ℕ) where
+  pub advancing-illegal : legal ws c ≡ false → Advancing g ws c budget out (Stuck NoPlace) out
+  advancing-illegal e = record { answer = rw e; filled = rw e }
+
+  pub advancing-full : legal ws c ≡ true → length out < budget → Advancing g ws c budget out (Stuck (NoRoom budget (length out))) out
+  advancing-full e h = record { answer = rw (e, lt-leb _ _ h); filled = rw (e, lt-leb _ _ h) }
+
+  pub advancing-gone : (r : Stretch) (out′ : List ℕ) → legal ws c ≡ true → budget ≤ length out → Gone g ws c budget out r out′ → Advancing g ws c budget out (Moved r) out′
+  advancing-gone r out′ e h p = record { answer = rw (e, le-leb _ _ h) (ap Moved (p .answer)); filled = rw (e, le-leb _ _ h) (p .filled) }
+
+-- ---- a block's view
+
+module _ (t : ℕ) (v : List ℕ) (c : Cursor) (budget : ℕ) (out : List ℕ) where
+  pub stretched-fit : (r : Advanced) (out′ : List ℕ) → checkOf Standard t v ≡ Fine → Advancing (rangeOf (fieldsAt v)) (standardWords v) c budget out r out′
+      → Stretched t v c budget out r out′
+  unfolding advanceFault advanceOf stretchFilled
+  stretched-fit r out′ e p = record { answer = rw e (p .answer); filled = rw e (p .filled) }
+
+  pub stretched-unfit : (x : Refusal) → checkOf Standard t v ≡ Unfit x → Stretched t v c budget out (Stuck x) out
+  unfolding advanceFault advanceOf stretchFilled
+  stretched-unfit x e = record { answer = rw e; filled = rw e }
+
+-- ---- a packet and a block's index: the part that was lent is the view
+
+module _ (s : List ℕ) (k t : ℕ) (c : Cursor) (budget : ℕ) (out : List ℕ) where
+  pub stretched-at : (at n : ℕ) (r : Advanced) (out′ : List ℕ) → locate Standard s k ≡ At at n → Stretched t (take (at + n - at) (drop at s)) c budget out r out′
+      → StretchedIn s k t c budget out r out′
+  stretched-at at n r out′ e p =
+      let q : at + n - at ≡ n = omega arith in
+      let f : Stretched t (part s at n) c budget out r out′ = rw q at p in
+      record { answer = rw e (f .answer); filled = rw e (f .filled) }
+
+  pub stretched-missing : (x : Refusal) → locate Standard s k ≡ Missing x → StretchedIn s k t c budget out (Stuck x) out
+  stretched-missing x e = record { answer = rw e; filled = rw e }

@@ -1,0 +1,26 @@
+-- A block gone through by calls of any budgets, one after the other.
+--     total        the sum of the budgets
+--     stretches    what stretches of those budgets list, joined: each one begins at the cursor where the one before it ended
+--     Calls        calls of `advance` on a block's view v, asked as type t: their budgets, the first cursor, and what they listed, joined
+use Prim.Native.Nat.{ℕ, _+_}
+use mathlib.Core.List.{List, [], _∷_, _++_}
+use lib.ListN.{take}
+use Rattle.standard.specs.declared.Range.{Range}
+use Rattle.cursors.specs.declared.Cursor.{Cursor}
+use Rattle.cursors.specs.declared.Stretch.{Stretch}
+use Rattle.cursors.specs.declared.Advanced.the-variants.{Moved}
+use Rattle.cursors.specs.Cursor.{afterSteps, listedBy, Stretched}
+
+abbrev pub total : List ℕ → ℕ
+total [] = 0
+total (b ∷ bs) = b + total bs
+
+unfoldable pub stretches : Range → List ℕ → List ℕ → Cursor → List ℕ
+stretches g ws [] c = []
+stretches g ws (b ∷ bs) c = listedBy g ws b c ++ stretches g ws bs (afterSteps ws b c)
+
+-- nothing is asked of the calls but `advance`'s contract, and that none is refused; each lends a list of its own
+pub data Calls (t : ℕ) (v : List ℕ) : List ℕ → Cursor → List ℕ → Type 0 where
+  ended : {c : Cursor} → Calls t v [] c []
+  called : {b : ℕ} {bs : List ℕ} {c : Cursor} {l out out′ : List ℕ} {s : Stretch} → Stretched t v c b out (Moved s) out′ → Calls t v bs (s .next) l
+      → Calls t v (b ∷ bs) c (take (s .listed) out′ ++ l)

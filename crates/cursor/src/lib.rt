@@ -1,0 +1,175 @@
+// The standard number cursor (document 01, "Views, cursors and the dump"): a call takes a budget of steps from a place of a block's words, lists
+// that stretch's numbers, and reports how many steps it took and where the next call goes on.
+mod store;
+
+ghost use mathlib.Core.Path.{_≡_};
+ghost use mathlib.Core.Bool.{true};
+ghost use Prim.Native.Nat.{_+_, _-_, _≤_, _<_, min};
+ghost use lib.ListN.{length, getD};
+ghost use Rattle.wire.specs.Bytes.{words16};
+ghost use Rattle.standard.specs.Range.{circle};
+ghost use Rattle.rle.specs.Inside.{insideCount};
+ghost use Rattle.cursors.specs.Cursor.{legal, stepsIn, Stretched, StretchedIn};
+ghost use Rattle.cursor.specs.Steps.{movedIn, Gone, Advancing};
+use cursors::Advanced;
+use cursors::Cursor;
+use cursors::Stretch;
+use refusals::Checked;
+use refusals::Refusal;
+use standard::Range;
+use wire::Located;
+use wire::Reading;
+
+fn lesser(a: usize, b: usize) -> usize
+    ensures { λ r. ⌜ r ≡ min a b ⌝ }
+{
+    if a <= b { a } else { b }
+}
+
+// What is left of a above b.
+fn above(a: usize, b: usize) -> usize
+    ensures { λ r. ⌜ r ≡ a - b ⌝ }
+{
+    if a <= b { 0 } else { a - b }
+}
+
+// The word at an index of the words.
+fn word_at(bytes: &[u8], i: usize) -> u16
+    requires { ⌜ i < length (words16 (now bytes)) ⌝ }
+    ensures { λ r. ⌜ r ≡ getD (words16 (now (bytes .entry))) i 0 ⌝ }
+{
+    let at = 2 * i;
+    utils::pair(bytes[at], bytes[at + 1])
+}
+
+// How many steps a word takes: one for each place, and one to pass a word that covers none.
+fn steps_in(w: u16) -> usize
+    ensures { λ r. ⌜ r ≡ stepsIn w ⌝ }
+{
+    let covered = chunk::covers(w) as usize;
+    if covered == 0 { 1 } else { covered }
+}
+
+// A place of the words or their end, with a position of at most 65,536: else 16.
+fn is_legal(bytes: &[u8], c: Cursor) -> bool
+    ensures { λ r. ⌜ r ≡ legal (words16 (now (bytes .entry))) c ⌝ }
+{
+    let i = c.word;
+    let words = bytes.len() / 2;
+    if 65536 < c.position {
+        return false;
+    }
+    if i < words {
+        return c.place < steps_in(word_at(bytes, i));
+    }
+    if i == words {
+        return c.place == 0;
+    }
+    false
+}
+
+// The cursor after m steps in the word w, which do not go past it.
+fn moved(w: u16, m: usize, c: Cursor) -> Cursor
+    requires { ⌜ (c .position ≤ circle) × (c .place + m ≤ stepsIn w) × (c .word + 1 < 18446744073709551616) ⌝ }
+    ensures { λ r. ⌜ r ≡ movedIn w m c ⌝ }
+{
+    let passed = lesser(m, chunk::covers(w) as usize);
+    let position = lesser(c.position + passed, 65536);
+    if c.place + m < steps_in(w) {
+        return Cursor {
+            word: c.word,
+            place: c.place + m,
+            position,
+        };
+    }
+    Cursor {
+        word: c.word + 1,
+        place: 0,
+        position,
+    }
+}
+
+// At most budget steps from a legal cursor, word by word: in the word at hand all steps at once, and only the numbers inside are stored.
+fn go(bytes: &[u8], g: Range, c: Cursor, budget: usize, out: &mut [u16]) -> Stretch
+    requires { ⌜ insideCount g ≤ circle ⌝ }
+    requires { ⌜ legal (words16 (now bytes)) c ≡ true ⌝ }
+    requires { ⌜ budget ≤ length (now out) ⌝ }
+    ensures { λ r. ⌜ Gone g (words16 (now (bytes .entry))) c budget (now (out .entry)) r (now (out .exit)) ⌝ }
+{
+    let words = bytes.len() / 2;
+    let step = utils::doubled(1, g.thinning);
+    let inside = rle::inside_count(g);
+    let mut at = c;
+    let mut left = budget;
+    let mut n: usize = 0;
+    while left != 0 {
+        let i = at.word;
+        if words <= i {
+            return Stretch {
+                next: at,
+                taken: budget - left,
+                listed: n,
+            };
+        }
+        let w = word_at(bytes, i);
+        let m = lesser(left, steps_in(w) - at.place);
+        let room = lesser(m, above(inside, at.position));
+        n = store::store_places(
+            out,
+            n,
+            w,
+            at.place,
+            room,
+            rle::number_at(g, at.position),
+            step,
+        );
+        at = moved(w, m, at);
+        left -= m;
+    }
+    Stretch {
+        next: at,
+        taken: budget,
+        listed: n,
+    }
+}
+
+// A stretch of the words in a range: 16, for budget 0 too; then 11, by the budget.
+fn advance_words(bytes: &[u8], g: Range, c: Cursor, budget: usize, out: &mut [u16]) -> Advanced
+    requires { ⌜ insideCount g ≤ circle ⌝ }
+    ensures { λ r. ⌜ Advancing g (words16 (now (bytes .entry))) c budget (now (out .entry)) r (now (out .exit)) ⌝ }
+{
+    let stands = is_legal(bytes, c);
+    if !stands {
+        return Advanced::Stuck(Refusal::NoPlace);
+    }
+    if out.len() < budget {
+        return Advanced::Stuck(Refusal::NoRoom(budget, out.len()));
+    }
+    Advanced::Moved(go(bytes, g, c, budget, out))
+}
+
+// Takes at most budget steps in a block, asked as type t: 10, 7, 16, 11. It lists the stretch's numbers and gives the next cursor and the steps
+// taken. A call costs what the words that it reads and the numbers that it stores cost, whatever the budget (document 01, "Views, cursors and the
+// dump"; RFC 3611, 4.1). Port of: rle.rs RleSequenceIter; differs: a budget and a cursor in place of an iterator, and the standard reading.
+pub fn advance(t: u8, v: &[u8], c: Cursor, budget: usize, out: &mut [u16]) -> Advanced
+    ensures { λ r. ⌜ Stretched t (now (v .entry)) c budget (now (out .entry)) r (now (out .exit)) ⌝ }
+{
+    match block::check(Reading::Standard, t, v) {
+        Checked::Fine => {
+            let g = rle::range_of(block::fields_at(v));
+            let behind = lesser(12, v.len());
+            advance_words(&v[behind..], g, c, budget, out)
+        }
+        Checked::Unfit(x) => Advanced::Stuck(x),
+    }
+}
+
+// The same of block k of a packet: 1 to 6, 9, 10, 7, 16, 11.
+pub fn advance_in(s: &[u8], k: usize, t: u8, c: Cursor, budget: usize, out: &mut [u16]) -> Advanced
+    ensures { λ r. ⌜ StretchedIn (now (s .entry)) k t c budget (now (out .entry)) r (now (out .exit)) ⌝ }
+{
+    match xr::locate(Reading::Standard, s, k) {
+        Located::At(at, n) => advance(t, &s[at..at + n], c, budget, out),
+        Located::Missing(x) => Advanced::Stuck(x),
+    }
+}

@@ -1,0 +1,22 @@
+-- `rle::word::number_on` meets its contract: nothing wraps on the way. Assumes nothing.
+use Prim.Native.Nat.{_*_, _≤_}
+use native.Mathlib.Nat.{mul-le-mul}
+use native.Mathlib.Omega.{arith}
+use borrow.Author.Needs.{needs}
+use Rattle.rle.proofs.word.number_on.Statement.{statement}
+use Rattle.rle.proofs.word.number_on.Tie as tie
+
+mul-result : tie.Need-mul-result
+mul-result c = let b : c .args .step ≤ 65535 = omega arith in let k : c .args .q * c .args .step ≤ 15 * 65535 = mul-le-mul (c .pre) b in omega arith
+
+add-result : tie.Need-add-result
+add-result c = let b : c .args .step ≤ 65535 = omega arith in let k : c .args .q * c .args .step ≤ 15 * 65535 = mul-le-mul (c .pre) b in omega arith
+
+cast-result : tie.Need-cast-result
+cast-result c = search needs
+
+returns : tie.Need-returns
+returns c = search needs
+
+pub number-on-spec : {M : Type 1} → statement M
+number-on-spec = tie.close (tie.spec mul-result add-result cast-result returns)

@@ -1,0 +1,20 @@
+-- `rle::word::weight` meets its contract: by the word's kind. Assumes nothing.
+use borrow.Author.Tests.{lt-ltb, le-ltb}
+use borrow.Author.Needs.{needs}
+use Rattle.rle.proofs.word.weight.Statement.{statement}
+use Rattle.rle.proofs.word.weight.Tie as tie
+
+returns : tie.Need-returns
+returns c = simp (lt-ltb _ _ (c .if1 .taken))
+
+covers-requires : tie.Need-covers-requires
+covers-requires c κs = search needs
+
+cast-result : tie.Need-cast-result
+cast-result c = search needs
+
+returns-2 : tie.Need-returns-2
+returns-2 c = simp (le-ltb _ _ (c .before .if1 .left)) (c .covers .ensures)
+
+pub weight-spec : {M : Type 1} → statement M
+weight-spec = tie.close (tie.spec returns covers-requires cast-result returns-2)

@@ -1,0 +1,21 @@
+-- `rle::word::without_top` meets its contract: the shift does not wrap. Assumes nothing.
+use Rattle.rle.proofs.DigitLaws.{top-below}
+use native.Mathlib.Omega.{arith}
+use borrow.Author.Needs.{needs}
+use Rattle.rle.proofs.word.without_top.Statement.{statement}
+use Rattle.rle.proofs.word.without_top.Tie as tie
+
+cast-result : tie.Need-cast-result
+cast-result c = omega (arith, top-below 32 (omega arith) (c .pre))
+
+shl-result : tie.Need-shl-result
+shl-result c = omega (arith, top-below 32 (omega arith) (c .pre))
+
+sub-result : tie.Need-sub-result
+sub-result c = search needs
+
+returns : tie.Need-returns
+returns c = search needs
+
+pub without-top-spec : {M : Type 1} → statement M
+without-top-spec = tie.close (tie.spec cast-result shl-result sub-result returns)
