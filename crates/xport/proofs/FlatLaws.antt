@@ -16,8 +16,12 @@ use Rattle.standard.specs.declared.Chunk.the-variants.{Null, Skip, Run, Vector}
 use Rattle.standard.specs.declared.Receipt.{Receipt}
 use Rattle.standard.specs.declared.Echo.{Echo}
 use Rattle.readings.specs.Questions.{ListedPairs, ListedEntries}
+use Rattle.cursors.specs.declared.Cursor.{Cursor}
+use Rattle.cursors.specs.declared.Advanced.{Advanced}
+use Rattle.cursors.specs.Cursor.{StretchedIn}
 use Rattle.xport.specs.declared.Flat.{Flat}
-use Rattle.xport.specs.Flat.{readingOf, kindOf, flatRefusal, flatOf, FlatListed, FlatPairs, FlatEntries}
+use Rattle.xport.specs.declared.FlatStretch.{FlatStretch}
+use Rattle.xport.specs.Flat.{readingOf, kindOf, flatRefusal, flatOf, flatStretch, FlatListed, FlatPairs, FlatEntries, FlatStretched}
 
 pub reading-standard : (r : ℕ) → r ≡ 0 → Standard ≡ readingOf r
 unfolding readingOf
@@ -62,3 +66,8 @@ pub flat-turned-away : {whole asked : Or (List ℕ)} {out : List ℕ} {f : Flat}
     → FlatListed whole out f out
 unfolding flatOf
 flat-turned-away {whole} {asked} {out} {f} x e w h = flat-listed e (turned-away asked out x w) h
+
+-- a cursor's call, its answer made flat
+pub flat-stretched : {s : List ℕ} {k t : ℕ} {c : Cursor} {budget : ℕ} {out out′ : List ℕ} {a : Advanced} {f : FlatStretch}
+    → StretchedIn s k t c budget out a out′ → f ≡ flatStretch a → FlatStretched s k t c budget out f out′
+flat-stretched l h = record { answer = h ∙ ap flatStretch (l .answer); filled = l .filled }

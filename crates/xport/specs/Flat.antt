@@ -28,7 +28,14 @@ use Rattle.standard.specs.declared.Chunk.the-variants.{Null, Skip, Run, Vector}
 use Rattle.standard.specs.declared.Receipt.{Receipt}
 use Rattle.standard.specs.declared.Echo.{Echo}
 use Rattle.readings.specs.Questions.{least3}
+use Rattle.wire.specs.Packet.{viewOf}
+use Rattle.cursors.specs.declared.Cursor.{Cursor}
+use Rattle.cursors.specs.declared.Stretch.{Stretch}
+use Rattle.cursors.specs.declared.Advanced.{Advanced}
+use Rattle.cursors.specs.declared.Advanced.the-variants.{Moved, Stuck}
+use Rattle.cursors.specs.Cursor.{start, advanceOf, stretchFilled, onViewAdvanced, onViewFilled}
 use Rattle.xport.specs.declared.Flat.{Flat}
+use Rattle.xport.specs.declared.FlatStretch.{FlatStretch}
 use Rattle.xport.specs.declared.FlatFields.{FlatFields}
 
 -- 0 asks for the standard reading, anything else for the crate's
@@ -72,6 +79,27 @@ unfoldable pub flatFields : FieldsOr → FlatFields
 flatFields (Shown g) = fieldsRow (found 0 0) g
 flatFields (NoneOf x) = fieldsRow (flatRefusal x) noFields
 
+abbrev pub stretchRow : Flat → Stretch → FlatStretch
+stretchRow f t =
+    record {
+      code = f .code;
+      first = f .first;
+      second = f .second;
+      word = t .next .word;
+      place = t .next .place;
+      position = t .next .position;
+      taken = t .taken;
+      listed = t .listed;
+    }
+
+abbrev pub noStretch : Stretch
+noStretch = record { next = start; taken = 0; listed = 0 }
+
+-- a cursor's stretch; all 0 where it is refused
+unfoldable pub flatStretch : Advanced → FlatStretch
+flatStretch (Moved t) = stretchRow (found 0 0) t
+flatStretch (Stuck x) = stretchRow (flatRefusal x) noStretch
+
 -- a chunk word's kind by a number: 0 Null, 1 a run of zeros, 2 a run of ones, anything else a vector
 unfoldable pub kindOf : ℕ → ℕ → Chunk
 kindOf k value = cond (eqb k 0) Null (cond (eqb k 1) (Skip value) (cond (eqb k 2) (Run value) (Vector value)))
@@ -93,3 +121,8 @@ pub record FlatEntries (whole : Or (List Echo)) (ss ls ds : List ℕ) (r : Flat)
   pub ssrcs : ss′ ≡ filledOf (each (λ x. x .ssrc) whole) (least3 ss ls ds) ss
   pub lasts : ls′ ≡ filledOf (each (λ x. x .last .0) whole) (least3 ss ls ds) ls
   pub delays : ds′ ≡ filledOf (each (λ x. x .delay .0) whole) (least3 ss ls ds) ds
+
+-- cursors' `StretchedIn`
+pub record FlatStretched (s : List ℕ) (k t : ℕ) (c : Cursor) (budget : ℕ) (out : List ℕ) (r : FlatStretch) (out′ : List ℕ) : Type 0 where
+  pub answer : r ≡ flatStretch (onViewAdvanced (viewOf Standard s k) (λ v. advanceOf t v c budget (length out)))
+  pub filled : out′ ≡ onViewFilled (viewOf Standard s k) (λ v. stretchFilled t v c budget out) out

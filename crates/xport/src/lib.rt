@@ -4,9 +4,12 @@ ghost use mathlib.Core.Path.{_≡_};
 ghost use Rattle.refusals.specs.Answers.{Listed};
 ghost use Rattle.wire.specs.Packet.{countOf, locate};
 ghost use Rattle.standard.specs.Chunks.{wordBytes};
+ghost use Rattle.cursors.specs.Cursor.{cursor as here};
 ghost use Rattle.readings.specs.Questions.{numbersShown};
 ghost use Rattle.readings.specs.Packets.{fieldsAsked, timeAsked, numbersAsked, wordsAsked, pairsAsked, entriesAsked};
-ghost use Rattle.xport.specs.Flat.{readingOf, flatRefusal, flatOf, flatLocated, flatFields, flatTime, kindOf, FlatListed, FlatPairs, FlatEntries};
+ghost use Rattle.xport.specs.Flat.{readingOf, flatRefusal, flatOf, flatLocated, flatFields, flatTime, flatStretch, kindOf, FlatListed, FlatPairs, FlatEntries, FlatStretched};
+use cursors::Advanced;
+use cursors::Cursor;
 use refusals::Answer;
 use refusals::Refusal;
 use standard::Chunk;
@@ -34,6 +37,19 @@ pub struct FlatFields {
     pub begin: u16,
     pub end: u16,
     pub thinning: u8,
+}
+
+// The same with where a number cursor stands next, how many steps it took and how many numbers it listed, 0 where it is refused.
+#[repr(C)]
+pub struct FlatStretch {
+    pub code: u32,
+    pub first: u64,
+    pub second: u64,
+    pub word: u64,
+    pub place: u64,
+    pub position: u64,
+    pub taken: u64,
+    pub listed: u64,
 }
 
 fn reading(r: u8) -> Reading
@@ -139,6 +155,39 @@ fn time(a: TimeOr) -> Flat
     }
 }
 
+fn stretch(a: Advanced) -> FlatStretch
+    ensures { λ f. ⌜ f ≡ flatStretch a ⌝ }
+{
+    match a {
+        Advanced::Moved(t) => {
+            let next = t.next;
+            FlatStretch {
+                code: 0,
+                first: 0,
+                second: 0,
+                word: next.word as u64,
+                place: next.place as u64,
+                position: next.position as u64,
+                taken: t.taken as u64,
+                listed: t.listed as u64,
+            }
+        }
+        Advanced::Stuck(x) => {
+            let f = refusal(x);
+            FlatStretch {
+                code: f.code,
+                first: f.first,
+                second: f.second,
+                word: 0,
+                place: 0,
+                position: 0,
+                taken: 0,
+                listed: 0,
+            }
+        }
+    }
+}
+
 // How many blocks a packet has: 1 to 6.
 #[no_mangle]
 pub extern "C" fn xr_count(r: u8, packet: &[u8]) -> Flat
@@ -235,4 +284,26 @@ pub extern "C" fn xr_chunk(k: u8, value: u32, out: &mut [u8]) -> Flat
     ensures { λ a. ⌜ FlatListed (wordBytes (kindOf k value)) (now (out .entry)) a (now (out .exit)) ⌝ }
 {
     answer(chunk::write_chunk(kind(k, value), out))
+}
+
+// At most budget steps of the standard number cursor in block k, asked as type t (1 or 2): 1 to 6, 9, 10, 7, 16, 11.
+#[no_mangle]
+pub extern "C" fn xr_cursor(
+    packet: &[u8],
+    k: usize,
+    t: u8,
+    word: usize,
+    place: usize,
+    position: usize,
+    budget: usize,
+    out: &mut [u16],
+) -> FlatStretch
+    ensures { λ a. ⌜ FlatStretched (now (packet .entry)) k t (here word place position) budget (now (out .entry)) a (now (out .exit)) ⌝ }
+{
+    let c = Cursor {
+        word,
+        place,
+        position,
+    };
+    stretch(cursor::advance_in(packet, k, t, c, budget, out))
 }
