@@ -1,0 +1,47 @@
+// Ratios of time: the proved library against the Rust original, each answering the same question from the
+// same bytes into memory treated alike. Every answer is compared before it is timed.
+//
+//     ours.rs      the proved library's calls          theirs.rs    the Rust's
+//     packets.rs   what is read                        agree.rs     the comparison
+//     timing.rs    turns and the table                 rows.rs      the rows and the growth
+
+mod agree;
+mod ours;
+mod packets;
+mod rows;
+mod theirs;
+mod timing;
+
+use timing::Table;
+
+fn main() {
+    compare();
+    let mut t = Table { above: Vec::new() };
+    rows::packet(&mut t);
+    rows::numbers(&mut t);
+    rows::others(&mut t);
+    rows::longest(&mut t);
+    rows::refusals(&mut t);
+    rows::growth(&mut t);
+    println!();
+    if t.above.is_empty() {
+        println!("bench: every row is at or below its bar");
+        return;
+    }
+    println!("bench: {} rows above their bar", t.above.len());
+    for row in &t.above {
+        println!("  {row}");
+    }
+    std::process::exit(1);
+}
+
+/// Random packets, every question about each.
+fn compare() {
+    let mut seed = packets::Seed(0x0DDB1A5E5BAD5EED);
+    let mut room = agree::Room::new(70_000);
+    let n = 4_000;
+    for _ in 0..n {
+        agree::everything(&packets::random(&mut seed), &mut room);
+    }
+    println!("bench: {n} random packets, every question of every block: the crate reading answers what the Rust answers");
+}

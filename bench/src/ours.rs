@@ -1,0 +1,112 @@
+// The proved library: crates/xport, as the static library libxport.a exports it. A slice crosses as a
+// pointer and a length.
+
+pub const STANDARD: u8 = 0;
+pub const CRATE: u8 = 1;
+
+/// Code 0 and what was found, or document 01's number of the refusal and its two values.
+#[repr(C)]
+#[derive(Clone, Copy, Debug, PartialEq, Eq)]
+pub struct Flat {
+    pub code: u32,
+    pub first: u64,
+    pub second: u64,
+}
+
+#[repr(C)]
+#[derive(Clone, Copy, Debug, PartialEq, Eq)]
+pub struct FlatFields {
+    pub code: u32,
+    pub first: u64,
+    pub second: u64,
+    pub ssrc: u32,
+    pub begin: u16,
+    pub end: u16,
+    pub thinning: u8,
+}
+
+#[link(name = "xport", kind = "static")]
+extern "C" {
+    fn xr_count(r: u8, s: *const u8, n: usize) -> Flat;
+    fn xr_locate(r: u8, s: *const u8, n: usize, k: usize) -> Flat;
+    fn xr_fields(r: u8, s: *const u8, n: usize, k: usize, t: u8) -> FlatFields;
+    fn xr_time(r: u8, s: *const u8, n: usize, k: usize) -> Flat;
+    fn xr_numbers(r: u8, s: *const u8, n: usize, k: usize, t: u8, out: *mut u16, m: usize) -> Flat;
+    fn xr_numbers_view(r: u8, t: u8, v: *const u8, n: usize, out: *mut u16, m: usize) -> Flat;
+    fn xr_words(r: u8, s: *const u8, n: usize, k: usize, t: u8, out: *mut u16, m: usize) -> Flat;
+    fn xr_pairs(
+        r: u8, s: *const u8, n: usize, k: usize,
+        numbers: *mut u16, a: usize, times: *mut u32, b: usize,
+    ) -> Flat;
+    fn xr_entries(
+        r: u8, s: *const u8, n: usize, k: usize,
+        ssrcs: *mut u32, a: usize, lasts: *mut u32, b: usize, delays: *mut u32, c: usize,
+    ) -> Flat;
+    fn xr_chunk(kind: u8, value: u32, out: *mut u8, m: usize) -> Flat;
+}
+
+// Each call hands the library a slice that Rust holds for its whole time, which is all that the
+// library asks of a caller: no exported function has a `requires`.
+
+#[inline]
+pub fn count(r: u8, s: &[u8]) -> Flat {
+    unsafe { xr_count(r, s.as_ptr(), s.len()) }
+}
+
+#[inline]
+pub fn locate(r: u8, s: &[u8], k: usize) -> Flat {
+    unsafe { xr_locate(r, s.as_ptr(), s.len(), k) }
+}
+
+#[inline]
+pub fn fields(r: u8, s: &[u8], k: usize, t: u8) -> FlatFields {
+    unsafe { xr_fields(r, s.as_ptr(), s.len(), k, t) }
+}
+
+#[inline]
+pub fn time(r: u8, s: &[u8], k: usize) -> Flat {
+    unsafe { xr_time(r, s.as_ptr(), s.len(), k) }
+}
+
+#[inline]
+pub fn numbers(r: u8, s: &[u8], k: usize, t: u8, out: &mut [u16]) -> Flat {
+    unsafe { xr_numbers(r, s.as_ptr(), s.len(), k, t, out.as_mut_ptr(), out.len()) }
+}
+
+#[inline]
+pub fn numbers_view(r: u8, t: u8, v: &[u8], out: &mut [u16]) -> Flat {
+    unsafe { xr_numbers_view(r, t, v.as_ptr(), v.len(), out.as_mut_ptr(), out.len()) }
+}
+
+#[inline]
+pub fn words(r: u8, s: &[u8], k: usize, t: u8, out: &mut [u16]) -> Flat {
+    unsafe { xr_words(r, s.as_ptr(), s.len(), k, t, out.as_mut_ptr(), out.len()) }
+}
+
+#[inline]
+pub fn pairs(r: u8, s: &[u8], k: usize, numbers: &mut [u16], times: &mut [u32]) -> Flat {
+    unsafe {
+        xr_pairs(
+            r, s.as_ptr(), s.len(), k,
+            numbers.as_mut_ptr(), numbers.len(), times.as_mut_ptr(), times.len(),
+        )
+    }
+}
+
+#[inline]
+pub fn entries(
+    r: u8, s: &[u8], k: usize, ssrcs: &mut [u32], lasts: &mut [u32], delays: &mut [u32],
+) -> Flat {
+    unsafe {
+        xr_entries(
+            r, s.as_ptr(), s.len(), k,
+            ssrcs.as_mut_ptr(), ssrcs.len(), lasts.as_mut_ptr(), lasts.len(),
+            delays.as_mut_ptr(), delays.len(),
+        )
+    }
+}
+
+#[inline]
+pub fn chunk(kind: u8, value: u32, out: &mut [u8]) -> Flat {
+    unsafe { xr_chunk(kind, value, out.as_mut_ptr(), out.len()) }
+}

@@ -1,0 +1,266 @@
+// The rows. A row's bar is 1.0, and 0.5 where numbers come from runs; rows of the standard reading have none,
+// since the Rust has no such reading: it is timed on blocks where both list the same.
+
+use crate::agree::{self, Room};
+use crate::ours::{self, CRATE, STANDARD};
+use crate::packets::{self as make, careful, mixed, runs, some_runs, vectors};
+use crate::theirs;
+use crate::timing::{once, pair, Pair, Table};
+use std::hint::black_box as bb;
+
+/// Keeps an answer from being thrown away unmade.
+fn go<T>(answer: T) {
+    bb(answer);
+}
+
+const BAR: f64 = 1.0;
+const RUNS: f64 = 0.5;
+
+fn loss(words: Vec<u16>) -> Vec<u8> {
+    make::packet(&[make::rle(1, 0, 65535, 0, &words)])
+}
+
+/// The header's checks and the walk.
+pub fn packet(t: &mut Table) {
+    t.heading("packet");
+    let s = make::packet(&make::small_blocks(10));
+    agree::everything(&s, &mut Room::new(1000));
+    let p = pair(|| go(ours::count(CRATE, bb(&s))), || go(theirs::parse(bb(&s)).is_ok()));
+    t.row("walk of 10 blocks, against Xr::parse alone", p, BAR);
+    t.row("count of 10 blocks, against parse and block_iter", walk(&s), BAR);
+    let p = pair(
+        || go(ours::count(STANDARD, bb(&s))),
+        || go(theirs::parse(bb(&s)).is_ok()),
+    );
+    t.note("walk of 10 blocks, standard, against Xr::parse alone", p);
+    let p = pair(|| go(ours::locate(CRATE, bb(&s), 9)), || go(theirs::locate(bb(&s), 9)));
+    t.row("the last of 10 blocks", p, BAR);
+    let p = pair(|| go(ours::fields(CRATE, bb(&s), 5, 1)), || go(theirs::fields(bb(&s), 5)));
+    t.row("fields of block 5 of 10", p, BAR);
+    let p = pair(|| go(ours::time(CRATE, bb(&s), 6)), || go(theirs::time(bb(&s), 6)));
+    t.row("time of block 6 of 10", p, BAR);
+}
+
+fn walk(s: &[u8]) -> Pair {
+    pair(|| go(ours::count(CRATE, bb(s))), || go(theirs::count(bb(s))))
+}
+
+/// Numbers of the packet's block 0: header, walk, checks and list, on both sides.
+fn listed(reading: u8, s: &[u8]) -> Pair {
+    let mut room = Room::new(15 * s.len() + 70_000);
+    agree::numbers(s, 0, &mut room);
+    let n = room.list.len();
+    let Room { mut out, mut list } = Room::new(n);
+    if reading == STANDARD {
+        ours::numbers(STANDARD, s, 0, 1, &mut out);
+        assert_eq!(out[..], room.list[..n], "both readings list the same here");
+    }
+    pair(
+        || go(ours::numbers(reading, bb(s), 0, 1, bb(&mut out))),
+        || go(theirs::numbers(bb(s), 0, bb(&mut list))),
+    )
+}
+
+/// The same of a block that is at hand: no header, no walk.
+fn viewed(s: &[u8]) -> Pair {
+    use rtcp_types::prelude::*;
+    let mut room = Room::new(15 * s.len() + 70_000);
+    agree::numbers(s, 0, &mut room);
+    let Room { mut out, mut list } = Room::new(room.list.len());
+    let view = &s[8..];
+    let block = rtcp_types::XrBlock::parse(view).unwrap();
+    pair(
+        || go(ours::numbers_view(CRATE, 1, bb(view), bb(&mut out))),
+        || go(theirs::numbers_view(bb(&block), bb(&mut list))),
+    )
+}
+
+pub fn numbers(t: &mut Table) {
+    t.heading("numbers of 100 words");
+    let kinds = [
+        ("mixed words", mixed(100), BAR),
+        ("runs of 1 to 200", some_runs(100), RUNS),
+        ("runs of 1", runs(100, 1, 0), BAR),
+        ("runs of 8", runs(100, 8, 0), RUNS),
+        ("runs of 8 and gaps of 8", runs(100, 8, 8), RUNS),
+        ("runs of 100", runs(100, 100, 0), RUNS),
+        ("vectors", vectors(100), BAR),
+        ("vectors of ones", vec![0xFFFF; 100], BAR),
+        ("vectors of one bit", (0..100).map(|i| 0x8000 | 1 << (i * 7 % 15)).collect(), BAR),
+        ("vectors of zeros", vec![0x8000; 100], BAR),
+        ("zeros", runs(100, 0, 5), BAR),
+    ];
+    for (name, words, bar) in &kinds {
+        t.row(&format!("{name}: crate reading"), listed(CRATE, &loss(careful(words.clone()))), *bar);
+    }
+    for (name, words, bar) in &kinds {
+        t.row(&format!("{name}: crate reading, block at hand"), viewed(&loss(careful(words.clone()))), *bar);
+    }
+    for (name, words, _) in &kinds {
+        t.note(&format!("{name}: standard reading"), listed(STANDARD, &loss(careful(words.clone()))));
+    }
+    let long = loss(careful(runs(3, 16383, 0)));
+    t.row("3 runs of 16383: crate reading", listed(CRATE, &long), RUNS);
+    t.note("3 runs of 16383: standard reading", listed(STANDARD, &long));
+}
+
+/// Chunk words, pairs, entries.
+pub fn others(t: &mut Table) {
+    t.heading("words, pairs, entries");
+    for n in [10, 100] {
+        t.row(&format!("{n} chunk words"), words(n), BAR);
+        t.row(&format!("{n} pairs"), pairs(n, CRATE), BAR);
+        t.note(&format!("{n} pairs, standard"), pairs(n, STANDARD));
+        t.row(&format!("{n} entries"), entries(n, CRATE), BAR);
+        t.note(&format!("{n} entries, standard"), entries(n, STANDARD));
+    }
+}
+
+fn words(n: usize) -> Pair {
+    let s = loss(careful(mixed(n)));
+    let (mut out, mut list) = (vec![0; n + 2], Vec::with_capacity(n + 2));
+    pair(
+        || go(ours::words(CRATE, bb(&s), 0, 1, bb(&mut out))),
+        || go(theirs::words(bb(&s), 0, bb(&mut list))),
+    )
+}
+
+/// The faster of two ways to keep what the Rust's iterator hands out.
+fn faster(a: Pair, b: Pair) -> Pair {
+    Pair { ours: a.ours.min(b.ours), theirs: a.theirs.min(b.theirs) }
+}
+
+fn pairs(n: usize, reading: u8) -> Pair {
+    let times: Vec<u32> = (0..n as u32).map(|i| i.wrapping_mul(0x9E3779B9)).collect();
+    let s = make::packet(&[make::receipt(7, 7, 0, &times)]);
+    agree::pairs(&s, 0);
+    let (mut a, mut b) = (vec![0; n], vec![0; n]);
+    let (mut x, mut y) = (Vec::with_capacity(n), Vec::with_capacity(n));
+    let mut both = Vec::with_capacity(n);
+    assert_eq!(ours::pairs(reading, &s, 0, &mut a, &mut b).first as usize, n);
+    let apart = pair(
+        || go(ours::pairs(reading, bb(&s), 0, bb(&mut a), bb(&mut b))),
+        || go(theirs::pairs(bb(&s), 0, bb(&mut x), bb(&mut y))),
+    );
+    let together = pair(
+        || go(ours::pairs(reading, bb(&s), 0, bb(&mut a), bb(&mut b))),
+        || go(theirs::pairs_together(bb(&s), 0, bb(&mut both))),
+    );
+    faster(apart, together)
+}
+
+/// The Rust takes DLRR blocks of 16, 48, .. bytes only, and reads to the packet's end: so one entry's block,
+/// and the rest of the entries in a block behind it for the crate, or all in one block for the standard.
+fn entries(n: usize, reading: u8) -> Pair {
+    let n = n / 4 * 4 + 1;
+    let s = make::packet(&[make::dlrr(n)]);
+    agree::entries(&s, 0);
+    let (mut a, mut b, mut c) = (vec![0; n], vec![0; n], vec![0; n]);
+    let mut v = [(); 3].map(|_| Vec::with_capacity(n));
+    let mut all = Vec::with_capacity(n);
+    assert_eq!(ours::entries(reading, &s, 0, &mut a, &mut b, &mut c).first as usize, n);
+    let [x, y, z] = &mut v;
+    let apart = pair(
+        || go(ours::entries(reading, bb(&s), 0, bb(&mut a), bb(&mut b), bb(&mut c))),
+        || go(theirs::entries(bb(&s), 0, bb(x), bb(y), bb(z))),
+    );
+    let together = pair(
+        || go(ours::entries(reading, bb(&s), 0, bb(&mut a), bb(&mut b), bb(&mut c))),
+        || go(theirs::entries_together(bb(&s), 0, bb(&mut all))),
+    );
+    faster(apart, together)
+}
+
+/// Packets of 262,144 bytes, the longest there are.
+pub fn longest(t: &mut Table) {
+    t.heading("packets of 262,144 bytes");
+    let full = 131_062;
+    // from even numbers by steps of two no number is 65535, so no number fails
+    let one = |begin, end, thinning, words: Vec<u16>| {
+        let s = make::packet(&[make::rle(1, begin, end, thinning, &words)]);
+        assert_eq!(s.len(), 262_144);
+        s
+    };
+    t.row("131,061 runs of 1", listed(CRATE, &one(0, 0, 0, runs(full, 1, 0))), BAR);
+    t.row("131,061 runs of 8", listed(CRATE, &one(0, 65535, 1, runs(full, 8, 0))), RUNS);
+    t.row("131,061 vectors", listed(CRATE, &one(0, 65535, 1, vectors(full))), BAR);
+    t.row("131,061 mixed words", listed(CRATE, &one(0, 65535, 1, mixed(full))), BAR);
+    t.row("131,061 runs of zeros", listed(CRATE, &one(0, 0, 0, runs(full, 5, 5).iter().map(|w| w & 0x3fff).collect())), BAR);
+    let s = make::packet(&vec![make::block(77, 0, &[]); 65_534]);
+    assert_eq!(s.len(), 262_144);
+    t.row("count of 65,534 blocks", walk(&s), BAR);
+    // the list that nobody has room for: 2,147,172,363 numbers
+    let s = make::packet(&[make::rle(1, 0, 65535, 15, &vec![32767; full])]);
+    let mut out = vec![0; 65_536];
+    let p = once(
+        || assert_eq!(ours::numbers(CRATE, &s, 0, 1, &mut out).first, 2_147_172_363),
+        || assert_eq!(theirs::numbers_count(&s, 0), Ok(2_147_172_363)),
+    );
+    t.row("11 with 2,147,172,363 numbers, against count()", p, BAR);
+}
+
+/// Calls that are refused.
+pub fn refusals(t: &mut Table) {
+    t.heading("refused calls");
+    let good = loss(careful(mixed(100)));
+    let ten = make::packet(&make::small_blocks(10));
+    let changed = |s: &[u8], at: usize, x: u8| {
+        let mut s = s.to_vec();
+        s[at] = x;
+        s
+    };
+    let last = ten.len() - make::small_blocks(10)[9].len();
+    let short_block = make::packet(&[make::block(1, 0, &[0; 4])]);
+    let rows: [(&str, Vec<u8>, usize); 8] = [
+        ("1: 8 bytes", good[..8].to_vec(), 0),
+        ("2: version", changed(&good, 0, 0x40), 0),
+        ("3: packet type", changed(&good, 1, 200), 0),
+        ("4: length", changed(&good, 3, 9), 0),
+        ("6: the last of 10 blocks is too long", changed(&ten, last + 3, 200), 0),
+        ("9: block 10 of 10", ten.clone(), 10),
+        ("10: a clock block asked as loss", ten.clone(), 1),
+        ("7: a block of 8 bytes", short_block, 0),
+    ];
+    for (name, s, k) in &rows {
+        let mut room = Room::new(70_000);
+        agree::numbers(s, *k, &mut room);
+        let Room { mut out, mut list } = room;
+        let p = pair(
+            || go(ours::numbers(CRATE, bb(s), *k, 1, bb(&mut out))),
+            || go(theirs::numbers(bb(s), *k, bb(&mut list))),
+        );
+        t.row(name, p, BAR);
+    }
+    for (name, words) in [("mixed words", mixed(100)), ("vectors", vectors(100)), ("runs of 100", runs(100, 100, 0))] {
+        let s = loss(careful(words));
+        let mut room = Room::new(10);
+        agree::numbers(&s, 0, &mut room);
+        let p = pair(
+            || go(ours::numbers(CRATE, bb(&s), 0, 1, bb(&mut room.out))),
+            || go(theirs::numbers_count(bb(&s), 0)),
+        );
+        t.row(&format!("11: 100 {name} into room for 10, against count()"), p, BAR);
+    }
+}
+
+/// How each cost grows: nanoseconds for each word, pair, entry or block.
+pub fn growth(t: &mut Table) {
+    t.heading("growth: ns for each word, time, entry or block");
+    let rows: [(&str, fn(usize) -> Pair, f64); 8] = [
+        ("mixed words", |n| listed(CRATE, &loss(careful(mixed(n)))), BAR),
+        ("runs of 60", |n| listed(CRATE, &loss(careful(runs(n, 60, 0)))), RUNS),
+        ("vectors", |n| listed(CRATE, &loss(careful(vectors(n)))), BAR),
+        ("runs of zeros", |n| listed(CRATE, &loss(careful(runs(n, 5, 5).iter().map(|w| w & 0x3fff).collect()))), BAR),
+        ("chunk words", words, BAR),
+        ("pairs", |n| pairs(n, CRATE), BAR),
+        ("entries", |n| entries(n, CRATE), BAR),
+        ("blocks", |n| walk(&make::packet(&make::small_blocks(n))), BAR),
+    ];
+    for (name, f, bar) in rows {
+        for n in [10, 100, 1000] {
+            let p = f(n);
+            let each = Pair { ours: p.ours / n as f64, theirs: p.theirs / n as f64 };
+            t.row(&format!("{n} {name}"), each, bar);
+        }
+    }
+}

@@ -1,0 +1,38 @@
+use Rattle.readings.specs.Packets.{wordsAsked}
+use Rattle.xport.proofs.FlatLaws.{flat-listed}
+use mathlib.Core.Path.{ap}
+use borrow.Author.Needs.{needs}
+use Rattle.xport.proofs.xr_words.Statement.{statement}
+use Rattle.xport.proofs.xr_words.Tie as tie
+use Rattle.xport.proofs.xr_words.Reads as reads
+use Rattle.xport.proofs.xr_words.Lts as lts
+use Rattle.numbers.proofs.words_in.Reads as words-in-reads
+use Rattle.xport.proofs.answer.Reads as answer-reads
+use Rattle.xport.proofs.reading.Reads as reading-reads
+
+-- src/lib.rt:195:30
+reading-requires : tie.Need-reading-requires
+reading-requires c κs = search needs
+
+-- src/lib.rt:195:12
+words-in-requires : tie.Need-words-in-requires
+words-in-requires c κs = search needs
+
+-- src/lib.rt:195:5
+answer-requires : tie.Need-answer-requires
+answer-requires c κs = search needs
+
+-- src/lib.rt:191:1
+same-length : tie.Need-same-length
+same-length c = search needs
+
+-- src/lib.rt:191:1
+returns : tie.Need-returns
+returns c = let n = c .before .before .before in
+    let q = n .before .before in
+    let a = q .before .before .before .args in
+    flat-listed (ap (λ r. wordsAsked r (a .packet .now) (a .k) (a .t)) (q .reading .ensures)) (n .words-in .ensures) (c .answer .ensures)
+
+pub xr-words-spec : {M : Type 1} → statement M
+xr-words-spec =
+    tie.close (tie.spec reading-requires words-in-requires answer-requires same-length returns)

@@ -1,0 +1,128 @@
+-- The library's answers as numbers, for callers in other languages. Each is a flat copy of an answer that a definition below gives.
+--     readingOf      which reading a number asks for
+--     flatOf ..      an answer as a code and two values: code 0 and what was found, or document 01's number of the refusal and its two values
+--     FlatListed ..  the contracts of the calls that list
+use Prim.Native.Nat.{ℕ, min}
+use mathlib.Core.Bool.{cond}
+use mathlib.Core.Path.{_≡_}
+use mathlib.Core.List.{List}
+use lib.ListN.{length}
+use lib.Dec.{eqb}
+use Rattle.refusals.specs.declared.Refusal.{Refusal}
+use Rattle.refusals.specs.declared.Numbered.{Numbered}
+use Rattle.refusals.specs.declared.Answer.{Answer}
+use Rattle.refusals.specs.declared.Answer.the-variants.{Done, Refused}
+use Rattle.refusals.specs.Numbers.{numbered}
+use Rattle.refusals.specs.Answers.{Or, each, answerOf, filledOf}
+use Rattle.wire.specs.declared.Reading.{Reading}
+use Rattle.wire.specs.declared.Reading.the-variants.{Standard, Crate}
+use Rattle.wire.specs.declared.Located.{Located}
+use Rattle.wire.specs.declared.Located.the-variants.{At, Missing}
+use Rattle.wire.specs.declared.Fields.{Fields}
+use Rattle.wire.specs.declared.FieldsOr.{FieldsOr}
+use Rattle.wire.specs.declared.FieldsOr.the-variants.{Shown, NoneOf}
+use Rattle.wire.specs.declared.TimeOr.{TimeOr}
+use Rattle.wire.specs.declared.TimeOr.the-variants.{Time, NoTime}
+use Rattle.standard.specs.declared.Chunk.{Chunk}
+use Rattle.standard.specs.declared.Chunk.the-variants.{Null, Skip, Run, Vector}
+use Rattle.standard.specs.declared.Receipt.{Receipt}
+use Rattle.standard.specs.declared.Echo.{Echo}
+use Rattle.readings.specs.Questions.{least3}
+use Rattle.wire.specs.Packet.{viewOf}
+use Rattle.cursors.specs.declared.Cursor.{Cursor}
+use Rattle.cursors.specs.declared.Stretch.{Stretch}
+use Rattle.cursors.specs.declared.Advanced.{Advanced}
+use Rattle.cursors.specs.declared.Advanced.the-variants.{Moved, Stuck}
+use Rattle.cursors.specs.Cursor.{start, advanceOf, stretchFilled, onViewAdvanced, onViewFilled}
+use Rattle.xport.specs.declared.Flat.{Flat}
+use Rattle.xport.specs.declared.FlatStretch.{FlatStretch}
+use Rattle.xport.specs.declared.FlatFields.{FlatFields}
+
+-- 0 asks for the standard reading, anything else for the crate's
+unfoldable pub readingOf : ℕ → Reading
+readingOf r = cond (eqb r 0) Standard Crate
+
+-- what was found: code 0 and up to two values
+abbrev pub found : ℕ → ℕ → Flat
+found a b = record { code = 0; first = a; second = b }
+
+abbrev pub flatRow : Numbered → Flat
+flatRow n = record { code = n .number; first = n .first; second = n .second }
+
+-- a refusal's number and its two values
+abbrev pub flatRefusal : Refusal → Flat
+flatRefusal x = flatRow (numbered x)
+
+-- a count
+unfoldable pub flatOf : Answer → Flat
+flatOf (Done n) = found n 0
+flatOf (Refused x) = flatRefusal x
+
+-- where a view begins, and how many bytes it has
+unfoldable pub flatLocated : Located → Flat
+flatLocated (At at n) = found at n
+flatLocated (Missing x) = flatRefusal x
+
+-- a 64-bit time
+unfoldable pub flatTime : TimeOr → Flat
+flatTime (Time t) = found (t .0) 0
+flatTime (NoTime x) = flatRefusal x
+
+abbrev pub fieldsRow : Flat → Fields → FlatFields
+fieldsRow f g = record { code = f .code; first = f .first; second = f .second; ssrc = g .ssrc; begin = g .begin; end = g .end; thinning = g .thinning }
+
+abbrev pub noFields : Fields
+noFields = record { ssrc = 0; begin = 0; end = 0; thinning = 0 }
+
+-- a block's fields; all 0 where they are refused
+unfoldable pub flatFields : FieldsOr → FlatFields
+flatFields (Shown g) = fieldsRow (found 0 0) g
+flatFields (NoneOf x) = fieldsRow (flatRefusal x) noFields
+
+abbrev pub stretchRow : Flat → Stretch → FlatStretch
+stretchRow f t =
+    record {
+      code = f .code;
+      first = f .first;
+      second = f .second;
+      word = t .next .word;
+      place = t .next .place;
+      position = t .next .position;
+      taken = t .taken;
+      listed = t .listed;
+    }
+
+abbrev pub noStretch : Stretch
+noStretch = record { next = start; taken = 0; listed = 0 }
+
+-- a cursor's stretch; all 0 where it is refused
+unfoldable pub flatStretch : Advanced → FlatStretch
+flatStretch (Moved t) = stretchRow (found 0 0) t
+flatStretch (Stuck x) = stretchRow (flatRefusal x) noStretch
+
+-- a chunk word's kind by a number: 0 Null, 1 a run of zeros, 2 a run of ones, anything else a vector
+unfoldable pub kindOf : ℕ → ℕ → Chunk
+kindOf k value = cond (eqb k 0) Null (cond (eqb k 1) (Skip value) (cond (eqb k 2) (Run value) (Vector value)))
+
+-- the contract of a call that lists into one lent list: refusals' `Listed`, its answer flat
+pub record FlatListed (whole : Or (List ℕ)) (out : List ℕ) (r : Flat) (out′ : List ℕ) : Type 0 where
+  pub answer : r ≡ flatOf (answerOf whole (length out))
+  pub filled : out′ ≡ filledOf whole (length out) out
+
+-- readings' `ListedPairs`
+pub record FlatPairs (whole : Or (List Receipt)) (ns ts : List ℕ) (r : Flat) (ns′ ts′ : List ℕ) : Type 0 where
+  pub answer : r ≡ flatOf (answerOf whole (min (length ns) (length ts)))
+  pub numbers : ns′ ≡ filledOf (each (λ x. x .number) whole) (min (length ns) (length ts)) ns
+  pub times : ts′ ≡ filledOf (each (λ x. x .time .0) whole) (min (length ns) (length ts)) ts
+
+-- readings' `ListedEntries`
+pub record FlatEntries (whole : Or (List Echo)) (ss ls ds : List ℕ) (r : Flat) (ss′ ls′ ds′ : List ℕ) : Type 0 where
+  pub answer : r ≡ flatOf (answerOf whole (least3 ss ls ds))
+  pub ssrcs : ss′ ≡ filledOf (each (λ x. x .ssrc) whole) (least3 ss ls ds) ss
+  pub lasts : ls′ ≡ filledOf (each (λ x. x .last .0) whole) (least3 ss ls ds) ls
+  pub delays : ds′ ≡ filledOf (each (λ x. x .delay .0) whole) (least3 ss ls ds) ds
+
+-- cursors' `StretchedIn`
+pub record FlatStretched (s : List ℕ) (k t : ℕ) (c : Cursor) (budget : ℕ) (out : List ℕ) (r : FlatStretch) (out′ : List ℕ) : Type 0 where
+  pub answer : r ≡ flatStretch (onViewAdvanced (viewOf Standard s k) (λ v. advanceOf t v c budget (length out)))
+  pub filled : out′ ≡ onViewFilled (viewOf Standard s k) (λ v. stretchFilled t v c budget out) out

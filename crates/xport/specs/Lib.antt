@@ -1,0 +1,2 @@
+-- Flat: the library's answers as numbers.
+pub mod Flat
