@@ -1,0 +1,83 @@
+use borrow.Author.Needs.{needs}
+use Prim.Native.Nat.{_+_, _*_, _-_, _≤_, _<_}
+use mathlib.Core.Path.{_≡_}
+use lib.ListN.{length}
+use Rattle.replay.proofs.run.Statement.{statement}
+use Rattle.replay.proofs.run.Tie as tie
+use Rattle.replay.proofs.run.Reads as reads
+use Rattle.replay.proofs.run.Lts as lts
+use Rattle.replay.proofs.less.Reads as less-reads
+use Rattle.replay.proofs.turn.Reads as turn-reads
+
+abbrev Inv-loop : tie.InvT-loop
+Inv-loop list packet₀ buf₀ ns₀ a₀ b₀ c₀ r₀ left₀ packet buf ns a b c r left = (length packet ≡ length packet₀) × (length buf ≡ length buf₀) × (length ns ≡ length ns₀) × (length a ≡ length a₀) × (length b ≡ length b₀) × (length c ≡ length c₀)
+
+abbrev μ-loop : tie.MeasureT-loop
+μ-loop list packet₀ buf₀ ns₀ a₀ b₀ c₀ r₀ left₀ packet buf ns a b c r left = left
+
+-- src/main.rt:171:5
+loop-holds : tie.Need-loop-holds Inv-loop μ-loop
+loop-holds c = search needs
+
+-- src/main.rt:172:9
+turn-requires : tie.Need-turn-requires Inv-loop μ-loop
+turn-requires c κs = search needs
+
+-- src/main.rt:174:9
+less-requires : tie.Need-less-requires Inv-loop μ-loop
+less-requires c κs = search needs
+
+-- src/main.rt:171:5
+loop-less : tie.Need-loop-less Inv-loop μ-loop
+loop-less c = search needs
+
+-- src/main.rt:171:5
+loop-again : tie.Need-loop-again Inv-loop μ-loop
+loop-again c = search needs
+
+-- src/main.rt:154:1
+same-length : tie.Need-same-length Inv-loop μ-loop
+same-length c = search needs
+
+-- src/main.rt:154:1
+same-length-2 : tie.Need-same-length-2 Inv-loop μ-loop
+same-length-2 c = search needs
+
+-- src/main.rt:154:1
+same-length-3 : tie.Need-same-length-3 Inv-loop μ-loop
+same-length-3 c = search needs
+
+-- src/main.rt:154:1
+same-length-4 : tie.Need-same-length-4 Inv-loop μ-loop
+same-length-4 c = search needs
+
+-- src/main.rt:154:1
+same-length-5 : tie.Need-same-length-5 Inv-loop μ-loop
+same-length-5 c = search needs
+
+-- src/main.rt:154:1
+same-length-6 : tie.Need-same-length-6 Inv-loop μ-loop
+same-length-6 c = search needs
+
+-- src/main.rt:154:1
+returns : tie.Need-returns Inv-loop μ-loop
+returns c = search needs
+
+pub run-spec : {M : Type 1} → statement M
+run-spec =
+    tie.close
+    (tie.spec
+    Inv-loop
+    μ-loop
+    loop-holds
+    turn-requires
+    less-requires
+    loop-less
+    loop-again
+    same-length
+    same-length-2
+    same-length-3
+    same-length-4
+    same-length-5
+    same-length-6
+    returns)
