@@ -39,6 +39,7 @@ fn main() {
 fn compare() {
     let mut seed = packets::Seed(0x0DDB1A5E5BAD5EED);
     let mut room = agree::Room::new(70_000);
+    agree::chunks();
     let n = 4_000;
     for _ in 0..n {
         agree::everything(&packets::random(&mut seed), &mut room);

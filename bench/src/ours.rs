@@ -25,6 +25,19 @@ pub struct FlatFields {
     pub thinning: u8,
 }
 
+#[repr(C)]
+#[derive(Clone, Copy, Debug, PartialEq, Eq)]
+pub struct FlatStretch {
+    pub code: u32,
+    pub first: u64,
+    pub second: u64,
+    pub word: u64,
+    pub place: u64,
+    pub position: u64,
+    pub taken: u64,
+    pub listed: u64,
+}
+
 #[link(name = "xport", kind = "static")]
 extern "C" {
     fn xr_count(r: u8, s: *const u8, n: usize) -> Flat;
@@ -43,6 +56,10 @@ extern "C" {
         ssrcs: *mut u32, a: usize, lasts: *mut u32, b: usize, delays: *mut u32, c: usize,
     ) -> Flat;
     fn xr_chunk(kind: u8, value: u32, out: *mut u8, m: usize) -> Flat;
+    fn xr_cursor(
+        s: *const u8, n: usize, k: usize, t: u8, word: usize, place: usize, position: usize,
+        budget: usize, out: *mut u16, m: usize,
+    ) -> FlatStretch;
 }
 
 // Each call hands the library a slice that Rust holds for its whole time, which is all that the
@@ -109,4 +126,16 @@ pub fn entries(
 #[inline]
 pub fn chunk(kind: u8, value: u32, out: &mut [u8]) -> Flat {
     unsafe { xr_chunk(kind, value, out.as_mut_ptr(), out.len()) }
+}
+
+/// At most `budget` steps from (word, place, position).
+#[inline]
+pub fn cursor(
+    s: &[u8], k: usize, t: u8, at: (usize, usize, usize), budget: usize, out: &mut [u16],
+) -> FlatStretch {
+    unsafe {
+        xr_cursor(
+            s.as_ptr(), s.len(), k, t, at.0, at.1, at.2, budget, out.as_mut_ptr(), out.len(),
+        )
+    }
 }

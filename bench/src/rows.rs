@@ -5,7 +5,7 @@ use crate::agree::{self, Room};
 use crate::ours::{self, CRATE, STANDARD};
 use crate::packets::{self as make, careful, mixed, runs, some_runs, vectors};
 use crate::theirs;
-use crate::timing::{once, pair, Pair, Table};
+use crate::timing::{harder, once, pair, Pair, Table};
 use std::hint::black_box as bb;
 
 /// Keeps an answer from being thrown away unmade.
@@ -55,10 +55,17 @@ fn listed(reading: u8, s: &[u8]) -> Pair {
         ours::numbers(STANDARD, s, 0, 1, &mut out);
         assert_eq!(out[..], room.list[..n], "both readings list the same here");
     }
-    pair(
+    let vector = pair(
         || go(ours::numbers(reading, bb(s), 0, 1, bb(&mut out))),
         || go(theirs::numbers(bb(s), 0, bb(&mut list))),
-    )
+    );
+    let mut lent = vec![0; n];
+    let slice = pair(
+        || go(ours::numbers(reading, bb(s), 0, 1, bb(&mut out))),
+        || go(theirs::numbers_into(bb(s), 0, bb(&mut lent))),
+    );
+    assert_eq!(lent, out);
+    harder(vector, slice)
 }
 
 /// The same of a block that is at hand: no header, no walk.
@@ -99,9 +106,32 @@ pub fn numbers(t: &mut Table) {
     for (name, words, _) in &kinds {
         t.note(&format!("{name}: standard reading"), listed(STANDARD, &loss(careful(words.clone()))));
     }
+    t.note("mixed words: standard cursor, 256 steps a call", cursor(&loss(careful(mixed(100)))));
     let long = loss(careful(runs(3, 16383, 0)));
     t.row("3 runs of 16383: crate reading", listed(CRATE, &long), RUNS);
     t.note("3 runs of 16383: standard reading", listed(STANDARD, &long));
+}
+
+/// The whole list by calls of the number cursor, against the Rust's iterator.
+fn cursor(s: &[u8]) -> Pair {
+    let mut room = Room::new(70_000);
+    agree::numbers(s, 0, &mut room);
+    let Room { mut out, mut list } = Room::new(256);
+    let all = agree::by_cursor(s, &mut out);
+    assert_eq!(all, room.list, "the cursor lists the same");
+    pair(
+        || {
+            let mut c = (0, 0, 0);
+            loop {
+                let f = ours::cursor(bb(s), 0, 1, c, 256, bb(&mut out));
+                if f.taken == 0 {
+                    break;
+                }
+                c = (f.word as usize, f.place as usize, f.position as usize);
+            }
+        },
+        || go(theirs::numbers(bb(s), 0, bb(&mut list))),
+    )
 }
 
 /// Chunk words, pairs, entries.
@@ -125,11 +155,6 @@ fn words(n: usize) -> Pair {
     )
 }
 
-/// The faster of two ways to keep what the Rust's iterator hands out.
-fn faster(a: Pair, b: Pair) -> Pair {
-    Pair { ours: a.ours.min(b.ours), theirs: a.theirs.min(b.theirs) }
-}
-
 fn pairs(n: usize, reading: u8) -> Pair {
     let times: Vec<u32> = (0..n as u32).map(|i| i.wrapping_mul(0x9E3779B9)).collect();
     let s = make::packet(&[make::receipt(7, 7, 0, &times)]);
@@ -146,7 +171,7 @@ fn pairs(n: usize, reading: u8) -> Pair {
         || go(ours::pairs(reading, bb(&s), 0, bb(&mut a), bb(&mut b))),
         || go(theirs::pairs_together(bb(&s), 0, bb(&mut both))),
     );
-    faster(apart, together)
+    harder(apart, together)
 }
 
 /// The Rust takes DLRR blocks of 16, 48, .. bytes only, and reads to the packet's end: so one entry's block,
@@ -168,7 +193,7 @@ fn entries(n: usize, reading: u8) -> Pair {
         || go(ours::entries(reading, bb(&s), 0, bb(&mut a), bb(&mut b), bb(&mut c))),
         || go(theirs::entries_together(bb(&s), 0, bb(&mut all))),
     );
-    faster(apart, together)
+    harder(apart, together)
 }
 
 /// Packets of 262,144 bytes, the longest there are.
@@ -259,7 +284,7 @@ pub fn growth(t: &mut Table) {
     for (name, f, bar) in rows {
         for n in [10, 100, 1000] {
             let p = f(n);
-            let each = Pair { ours: p.ours / n as f64, theirs: p.theirs / n as f64 };
+            let each = Pair { ours: p.ours / n as f64, theirs: p.theirs / n as f64, ratio: p.ratio };
             t.row(&format!("{n} {name}"), each, bar);
         }
     }

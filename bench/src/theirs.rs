@@ -82,14 +82,17 @@ pub fn numbers_view(b: &XrBlock<'_>, out: &mut Vec<u16>) -> Reply<usize> {
     Ok(out.len())
 }
 
-/// The same into a slice, item by item: what a caller without a vector would write.
+/// The same into a slice, item by item: what a caller without a vector would write. It says how many there are, also
+/// where they do not fit.
 #[inline]
 pub fn numbers_into(s: &[u8], k: usize, out: &mut [u16]) -> Reply<usize> {
     with_block(s, k, |b| {
         let l = parsed::<LossRle>(&b)?;
         let mut n = 0;
-        for (slot, x) in out.iter_mut().zip(l.sequence_iter()) {
-            *slot = x;
+        for x in l.sequence_iter() {
+            if let Some(slot) = out.get_mut(n) {
+                *slot = x;
+            }
             n += 1;
         }
         Ok(n)

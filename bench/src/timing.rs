@@ -3,65 +3,83 @@
 
 use std::time::{Duration, Instant};
 
-/// Turns of each side in one row; the least of each side's turns counts.
-const ROUNDS: usize = 41;
+/// Turns of each side in one row.
+const ROUNDS: usize = 101;
 /// How long one turn should last.
-const TURN: Duration = Duration::from_micros(400);
+const TURN: Duration = Duration::from_micros(250);
 
-/// Nanoseconds for one call.
+/// Nanoseconds for one call, medians over the turns; and the median of the turns' own ratios, each of two turns side by
+/// side in time, so that a busy machine hits both alike.
 #[derive(Clone, Copy)]
 pub struct Pair {
     pub ours: f64,
     pub theirs: f64,
+    pub ratio: f64,
 }
 
-impl Pair {
-    pub fn ratio(self) -> f64 {
-        self.ours / self.theirs
-    }
+fn median(mut of: Vec<f64>) -> f64 {
+    of.sort_by(f64::total_cmp);
+    of[of.len() / 2]
 }
 
-fn turn(f: &mut impl FnMut(), calls: u32) -> Duration {
+fn turn(f: &mut impl FnMut(), calls: u32) -> f64 {
     let start = Instant::now();
     for _ in 0..calls {
         f();
     }
-    start.elapsed()
+    start.elapsed().as_nanos() as f64 / calls as f64
 }
 
 /// How many calls fill a turn.
 fn calls(f: &mut impl FnMut()) -> u32 {
     let mut n = 1;
     loop {
-        let d = turn(f, n);
-        if d >= TURN / 4 {
-            return ((n as f64 * TURN.as_secs_f64() / d.as_secs_f64()) as u32).max(1);
+        let each = turn(f, n);
+        if each * n as f64 >= TURN.as_nanos() as f64 / 4.0 {
+            return ((TURN.as_nanos() as f64 / each) as u32).max(1);
         }
         n *= 4;
     }
 }
 
-/// Both sides in turns, whoever goes first changing each time, so that a busy machine hits both alike.
+/// Both sides in turns, whoever goes first changing each time.
 pub fn pair(mut ours: impl FnMut(), mut theirs: impl FnMut()) -> Pair {
     let (a, b) = (calls(&mut ours), calls(&mut theirs));
-    let mut best = Pair { ours: f64::MAX, theirs: f64::MAX };
+    let (mut x, mut y, mut r) = (Vec::new(), Vec::new(), Vec::new());
+    let started = Instant::now();
     for round in 0..ROUNDS {
+        let (mut o, mut t) = (0.0, 0.0);
         for side in 0..2 {
             if (round + side) % 2 == 0 {
-                best.ours = best.ours.min(turn(&mut ours, a).as_nanos() as f64 / a as f64);
+                o = turn(&mut ours, a);
             } else {
-                best.theirs = best.theirs.min(turn(&mut theirs, b).as_nanos() as f64 / b as f64);
+                t = turn(&mut theirs, b);
             }
         }
+        x.push(o);
+        y.push(t);
+        r.push(o / t);
+        if round >= 10 && started.elapsed() > Duration::from_secs(1) {
+            break;
+        }
     }
-    best
+    Pair { ours: median(x), theirs: median(y), ratio: median(r) }
 }
 
 /// Each side once: for what takes seconds.
 pub fn once(mut ours: impl FnMut(), mut theirs: impl FnMut()) -> Pair {
-    let a = (0..5).map(|_| turn(&mut ours, 1)).min().unwrap();
+    let a = median((0..5).map(|_| turn(&mut ours, 1)).collect());
     let b = turn(&mut theirs, 1);
-    Pair { ours: a.as_nanos() as f64, theirs: b.as_nanos() as f64 }
+    Pair { ours: a, theirs: b, ratio: a / b }
+}
+
+/// Of two ways to do the Rust's side, the one that is harder to beat.
+pub fn harder(a: Pair, b: Pair) -> Pair {
+    if a.ratio < b.ratio {
+        b
+    } else {
+        a
+    }
 }
 
 /// The table: rows as they are measured, and those above their bar.
@@ -75,7 +93,7 @@ impl Table {
     }
 
     pub fn row(&mut self, name: &str, p: Pair, bar: f64) {
-        let r = p.ratio();
+        let r = p.ratio;
         let mark = if r > bar { "  ABOVE" } else { "" };
         println!("{name:<58} {:>11.1} {:>11.1} {r:>7.3} {bar:>5.1}{mark}", p.ours, p.theirs);
         if r > bar {
@@ -85,6 +103,6 @@ impl Table {
 
     /// A row with no bar: the two sides list different things, or it is there to be read.
     pub fn note(&self, name: &str, p: Pair) {
-        println!("{name:<58} {:>11.1} {:>11.1} {:>7.3} {:>5}", p.ours, p.theirs, p.ratio(), "-");
+        println!("{name:<58} {:>11.1} {:>11.1} {:>7.3} {:>5}", p.ours, p.theirs, p.ratio, "-");
     }
 }
