@@ -17,12 +17,20 @@ use timing::Table;
 fn main() {
     compare();
     let mut t = Table { above: Vec::new() };
-    rows::packet(&mut t);
-    rows::numbers(&mut t);
-    rows::others(&mut t);
-    rows::longest(&mut t);
-    rows::refusals(&mut t);
-    rows::growth(&mut t);
+    let groups: [(&str, fn(&mut Table)); 6] = [
+        ("packet", rows::packet),
+        ("numbers", rows::numbers),
+        ("others", rows::others),
+        ("longest", rows::longest),
+        ("refusals", rows::refusals),
+        ("growth", rows::growth),
+    ];
+    let asked: Vec<String> = std::env::args().skip(1).collect();
+    for (name, rows) in groups {
+        if asked.is_empty() || asked.iter().any(|a| a == name) {
+            rows(&mut t);
+        }
+    }
     println!();
     if t.above.is_empty() {
         println!("bench: every row is at or below its bar");

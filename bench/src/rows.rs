@@ -5,8 +5,7 @@ use crate::agree::{self, Room};
 use crate::ours::{self, CRATE, STANDARD};
 use crate::packets::{self as make, careful, mixed, runs, some_runs, vectors};
 use crate::theirs;
-use crate::timing::{harder, once, pair, Pair, Table};
-use std::hint::black_box as bb;
+use crate::timing::{bb, harder, once, pair, Pair, Table};
 
 /// Keeps an answer from being thrown away unmade.
 fn go<T>(answer: T) {

@@ -3,6 +3,15 @@
 
 use std::time::{Duration, Instant};
 
+/// A value of which the compiler knows nothing from here on, and that counts as used: std::hint::black_box, which the
+/// cross compiler of Debian 12 (Rust 1.63) does not have yet.
+#[inline(always)]
+pub fn bb<T>(x: T) -> T {
+    // the empty text is handed the value's address and may read and write any memory
+    unsafe { std::arch::asm!("/* {0} */", in(reg) &x, options(nostack, preserves_flags)) };
+    x
+}
+
 /// Turns of each side in one row.
 const ROUNDS: usize = 101;
 /// How long one turn should last.
@@ -30,11 +39,12 @@ fn turn(f: &mut impl FnMut(), calls: u32) -> f64 {
     start.elapsed().as_nanos() as f64 / calls as f64
 }
 
-/// How many calls fill a turn.
+/// How many calls fill a turn. The first calls do not count: a cold one (under an emulator, one that is being translated)
+/// can take as long as a turn, and a turn of few calls would measure the clock.
 fn calls(f: &mut impl FnMut()) -> u32 {
     let mut n = 1;
     loop {
-        let each = turn(f, n);
+        let each = (0..3).map(|_| turn(f, n)).fold(f64::MAX, f64::min);
         if each * n as f64 >= TURN.as_nanos() as f64 / 4.0 {
             return ((TURN.as_nanos() as f64 / each) as u32).max(1);
         }

@@ -137,7 +137,11 @@ pub fn fill_crate(bytes: &[u8], end: u16, thinning: u8, begin: u16, out: &mut [u
 {
     let size = word::least(LONGEST, bytes.len());
     let part = &bytes[..size];
-    if out.len() < list::at_most(part) {
+    let most = list::at_most(part);
+    if most == 0 {
+        return Answer::Done(0);
+    }
+    if out.len() < most {
         let need = list::tally_crate(part, end, thinning, begin);
         if out.len() < need {
             return Answer::Refused(Refusal::NoRoom(need, out.len()));

@@ -1,11 +1,12 @@
 -- What the packet's functions promise, over wire's definitions.
 --     parsedOf      an accepted packet, or 1 to 6
 --     partAt, bytesAt     where a view begins in memory, and its bytes: that part of the packet itself
---     Walk          what the walk's loop finds (private)
-use Prim.Native.Nat.{ℕ, _+_, _<_}
+--     Walking, Reach, Walk     what the walk's loops find (private)
+use Prim.Native.Nat.{ℕ, _+_, _*_, _-_, _%_, _≤_, _<_}
 use mathlib.Core.Path.{_≡_}
 use mathlib.Core.List.{List, []}
 use lib.ListN.{length}
+use Rattle.refusals.specs.declared.Refusal.{Refusal}
 use Rattle.refusals.specs.declared.Answer.{Answer}
 use Rattle.refusals.specs.declared.Answer.the-variants.{Done, Refused}
 use Rattle.wire.specs.declared.Reading.{Reading}
@@ -30,6 +31,21 @@ partAt ptr (Missing x) = ptr
 abbrev pub bytesAt : List ℕ → Located → List ℕ
 bytesAt s (At at n) = part s at n
 bytesAt s (Missing x) = []
+
+-- a place of the walk, at block n: the walk from here is the walk from the start
+pub record Walking (s : List ℕ) (stop at n : ℕ) : Type 0 where
+  pub before : at ≤ stop
+  pub word : at % 4 ≡ 0
+  pub count : 8 + 4 * n ≤ at
+  pub here : at ≡ placeOf s n
+  pub walk : walkFrom s stop (length s - n) at n ≡ walkFrom s stop (length s) 8 0
+
+-- the walk to block k: it stands there, or where the blocks end before it, or has met a block that is too long
+pub record Reach (s : List ℕ) (stop k : ℕ) (count : Answer) (place : ℕ) : Type 0 where
+  pub cut : (x : Refusal) → count ≡ Refused x → count ≡ walkFrom s stop (length s) 8 0
+  pub at : (n : ℕ) → count ≡ Done n → Walking s stop place n
+  pub near : (n : ℕ) → count ≡ Done n → n ≤ k
+  pub ended : (n : ℕ) → count ≡ Done n → n < k → stop ≤ place
 
 pub record Walk (s : List ℕ) (stop k : ℕ) (count : Answer) (place : ℕ) : Type 0 where
   pub counted : count ≡ walkFrom s stop (length s) 8 0

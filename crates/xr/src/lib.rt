@@ -5,7 +5,7 @@ ghost use Prim.Native.Nat.{_+_, _*_, _-_, _%_, _≤_, _<_};
 ghost use lib.ListN.{length, getD};
 ghost use Rattle.wire.specs.Packet.{leastOf, isBadPadding, isPadded, paddingOf, headerOf, lengthAt, placeOf, walkFrom, countOf, sizeAt, locate};
 ghost use Rattle.wire.specs.Block.{headerData};
-ghost use Rattle.xr.specs.Parts.{Walk, parsedOf, partAt, bytesAt};
+ghost use Rattle.xr.specs.Parts.{Walking, Reach, Walk, parsedOf, partAt, bytesAt};
 use refusals::Answer;
 use refusals::Refusal;
 use wire::Located;
@@ -129,23 +129,25 @@ pub fn header(r: Reading, s: &[u8]) -> Answer
     }
 }
 
-// The walk to where the blocks end, noting where block k begins.
-fn walk(s: &[u8], stop: usize, k: usize) -> Walked
+// The walk to block k, or to where the blocks end: how many blocks were passed, and where it stands.
+fn reach(s: &[u8], stop: usize, k: usize) -> Walked
     requires { ⌜ (stop ≤ length (now s)) × (stop % 4 ≡ 0) × (8 ≤ stop) ⌝ }
-    ensures { λ a. ⌜ Walk (now (s .entry)) stop k (a .count) (a .place) ⌝ }
+    ensures { λ a. ⌜ Reach (now (s .entry)) stop k (a .count) (a .place) ⌝ }
 {
     let mut at: usize = 8;
     let mut n: usize = 0;
-    let mut place: usize = 0;
-    while at < stop {
-        if n == k {
-            place = at;
+    while n < k {
+        if stop <= at {
+            return Walked {
+                count: Answer::Done(n),
+                place: at,
+            };
         }
         let len = length_at(s, at);
         if stop - at < len {
             return Walked {
                 count: Answer::Refused(Refusal::BlockTooLong(len, stop - at)),
-                place,
+                place: at,
             };
         }
         at += len;
@@ -153,7 +155,47 @@ fn walk(s: &[u8], stop: usize, k: usize) -> Walked
     }
     Walked {
         count: Answer::Done(n),
-        place,
+        place: at,
+    }
+}
+
+// The walk from a block on to where the blocks end. Nothing is noted here, since most of a walk is this.
+fn walk_on(s: &[u8], stop: usize, from: usize, passed: usize) -> Answer
+    requires { ⌜ (stop ≤ length (now s)) × (stop % 4 ≡ 0) × Walking (now s) stop from passed ⌝ }
+    ensures { λ a. ⌜ a ≡ walkFrom (now (s .entry)) stop (length (now (s .entry))) 8 0 ⌝ }
+{
+    let mut at = from;
+    let mut left = stop - from;
+    let mut n = passed;
+    while left != 0 {
+        let len = length_at(s, at);
+        if left < len {
+            return Answer::Refused(Refusal::BlockTooLong(len, left));
+        }
+        at += len;
+        left -= len;
+        n += 1;
+    }
+    Answer::Done(n)
+}
+
+// The walk to where the blocks end, noting where block k begins.
+fn walk(s: &[u8], stop: usize, k: usize) -> Walked
+    requires { ⌜ (stop ≤ length (now s)) × (stop % 4 ≡ 0) × (8 ≤ stop) ⌝ }
+    ensures { λ a. ⌜ Walk (now (s .entry)) stop k (a .count) (a .place) ⌝ }
+{
+    let w = reach(s, stop, k);
+    let passed = w.count;
+    let place = w.place;
+    match passed {
+        Answer::Done(n) => Walked {
+            count: walk_on(s, stop, place, n),
+            place,
+        },
+        Answer::Refused(x) => Walked {
+            count: Answer::Refused(x),
+            place,
+        },
     }
 }
 
