@@ -17,14 +17,11 @@ use Rattle.utils.proofs.BytesLaws.{pairUp-cons, pairUp-end, length-pairUp}
 use Rattle.rle.specs.Along.{along}
 use Rattle.rle.specs.Inside.{stepOf}
 use Rattle.rle.specs.Failing.{stopAt, mostOf}
+use Rattle.rle.specs.Runs.{here}
 use Rattle.rle.proofs.WordLaws.{word-zeros}
 use Rattle.rle.proofs.StopLaws.{stop-zeros}
 use Rattle.rle.proofs.Writing.{counted}
 use Rattle.rle.proofs.CrateLaws.{crate-nil, crate-cons, crate-passing, crate-failing, length-crate, most-nil, most-cons, most-le}
-
--- what is still to be listed from an index of the bytes on, with the start moved so far
-abbrev pub here : ℕ → ℕ → List ℕ → ℕ → ℕ → List ℕ
-here end t bytes at start = crateNumbersFrom end t start (words16 (drop at bytes))
 
 -- the numbers of one word
 abbrev pub added : ℕ → ℕ → ℕ → ℕ → List ℕ

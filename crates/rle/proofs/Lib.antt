@@ -13,4 +13,5 @@ pub mod DigitLaws
 pub mod StopLaws
 pub mod NextLaws
 pub mod CrateTurn
+pub mod RunsTurn
 pub mod Unique

@@ -1,12 +1,16 @@
 // The lists, into slices that have room for them. Private to the crate.
 ghost use mathlib.Core.Path.{_≡_};
-ghost use Prim.Native.Nat.{_≤_};
+ghost use Prim.Native.Nat.{_+_, _%_, _≤_};
+ghost use mathlib.Core.Bool.{_&&_};
+ghost use lib.Dec.{leb, ltb};
 ghost use lib.ListN.{length};
 ghost use Rattle.wire.specs.Bytes.{words16};
 ghost use Rattle.standard.specs.Standard.{numbersOf};
 ghost use Rattle.old_crate.specs.Crate.{crateNumbersFrom};
 ghost use Rattle.rle.specs.Along.{Filled};
-ghost use Rattle.rle.specs.Failing.{mostOf};
+ghost use Rattle.rle.specs.Inside.{stepOf};
+ghost use Rattle.rle.specs.Failing.{mostOf, firstFail};
+ghost use Rattle.rle.specs.Runs.{here, Ran};
 use standard::Range;
 
 // Lists the numbers into a slice that has room for them. Port of: rle.rs RleSequenceIter::next; differs: the standard reading.
@@ -76,6 +80,71 @@ pub(crate) fn tally_crate(bytes: &[u8], end: u16, thinning: u8, begin: u16) -> u
     n
 }
 
+// Where the crate's list stands: bytes of the words read, numbers stored, the start as moved so far, and the first place from there that fails.
+struct Stand {
+    at: usize,
+    n: usize,
+    start: u16,
+    first: usize,
+}
+
+// A word is a run of ones none of whose numbers fails.
+fn is_clear_run(w: u16, first: usize) -> bool
+    ensures { λ r. ⌜ r ≡ (leb 16384 w && (ltb w 32768 && leb (w % 16384) first)) ⌝ }
+{
+    if w < 0x4000 {
+        return false;
+    }
+    if 0x8000 <= w {
+        return false;
+    }
+    chunk::run_length(w) as usize <= first
+}
+
+// The runs of ones that come next, as long as none of their numbers fails: of such a word only its length is asked.
+fn list_runs(
+    bytes: &[u8],
+    end: u16,
+    thinning: u8,
+    from: usize,
+    stored: usize,
+    begin: u16,
+    clear: usize,
+    step: u16,
+    out: &mut [u16],
+) -> Stand
+    requires { ⌜ (from ≤ length (now bytes)) × (clear ≡ firstFail begin end thinning) × (step ≡ stepOf thinning) × (stored + length (here end thinning (now bytes) from begin) ≤ length (now out)) ⌝ }
+    ensures { λ r. ⌜ Ran end thinning (now (bytes .entry)) from begin (now (out .entry)) stored (r .at) (r .start) (r .first) (now (out .exit)) (r .n) ⌝ }
+{
+    let mut at = from;
+    let mut n = stored;
+    let mut start = begin;
+    let mut first = clear;
+    while at + 1 < bytes.len() {
+        let w = utils::pair(bytes[at], bytes[at + 1]);
+        if !is_clear_run(w, first) {
+            return Stand {
+                at,
+                n,
+                start,
+                first,
+            };
+        }
+        let count = chunk::run_length(w);
+        n = crate::word::store_run(out, n, count as usize, start, step);
+        let next = utils::moved_by(count, thinning, start);
+        first = crate::word::next_fail(first, count, thinning, start, next, end);
+        start = next;
+        at += 2;
+    }
+    Stand {
+        at,
+        n,
+        start,
+        first,
+    }
+}
+
 // The crate's numbers, up to the first that fails. Port of: rle.rs RleSequenceIter::next.
 pub(crate) fn list_crate(bytes: &[u8], end: u16, thinning: u8, begin: u16, out: &mut [u16]) -> usize
     requires { ⌜ length (crateNumbersFrom end thinning begin (words16 (now bytes))) ≤ length (now out) ⌝ }
@@ -86,7 +155,15 @@ pub(crate) fn list_crate(bytes: &[u8], end: u16, thinning: u8, begin: u16, out: 
     let mut first = crate::first_fail(begin, end, thinning);
     let mut at: usize = 0;
     let mut n: usize = 0;
-    while at + 1 < bytes.len() {
+    while at < bytes.len() {
+        let r = list_runs(bytes, end, thinning, at, n, start, first, step, out);
+        at = r.at;
+        n = r.n;
+        start = r.start;
+        first = r.first;
+        if bytes.len() <= at + 1 {
+            return n;
+        }
         let w = utils::pair(bytes[at], bytes[at + 1]);
         let covered = chunk::covers(w);
         if 0x4000 <= w {

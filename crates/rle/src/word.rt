@@ -65,7 +65,7 @@ fn number_on(first: u16, q: usize, step: u16) -> u16
 }
 
 // Stores a run's numbers, one step apart.
-fn store_run(out: &mut [u16], at: usize, count: usize, first: u16, step: u16) -> usize
+pub(crate) fn store_run(out: &mut [u16], at: usize, count: usize, first: u16, step: u16) -> usize
     requires { ⌜ at + count ≤ length (now out) ⌝ }
     ensures { λ r. ⌜ Wrote (now (out .entry)) at (progression step first count) (now (out .exit)) r ⌝ }
 {

@@ -14,12 +14,13 @@ use Rattle.standard.specs.Chunks.{coversOf, valuesIn}
 use Rattle.old_crate.specs.Sequence.{movedBy}
 use Rattle.old_crate.specs.Crate.{crateNumbersFrom}
 use Rattle.base.proofs.Filling.{Filling, start as begun, skip, moved as settled, room-for, done}
-use Rattle.base.proofs.Stores.{Wrote}
+use Rattle.base.proofs.Stores.{Wrote, same}
 use Rattle.rle.specs.Along.{along}
 use Rattle.rle.specs.Inside.{stepOf}
 use Rattle.rle.proofs.WordLaws.{along-same}
 use Rattle.rle.specs.Failing.{stopAt, firstFail}
-use Rattle.rle.proofs.CrateTurn.{here, added, here-end, here-word, here-zeros, here-last, here-next}
+use Rattle.rle.specs.Runs.{here}
+use Rattle.rle.proofs.CrateTurn.{added, here-end, here-word, here-zeros, here-last, here-next}
 use Rattle.rle.proofs.Writing.{wrote, wrote-last}
 use Rattle.rle.proofs.list.list_crate.Statement.{statement}
 use Rattle.rle.proofs.list.list_crate.Tie as tie
@@ -32,63 +33,83 @@ Inv-loop bytes end thinning begin out₀ step start₀ first₀ at₀ n₀ out s
 abbrev μ-loop : tie.MeasureT-loop
 μ-loop bytes end thinning begin out₀ step start₀ first₀ at₀ n₀ out start first at n = length bytes - at
 
--- the function's entry, from the loop's head, and the loop's head, from where a word is known
+-- the function's entry, from the loop's head; the loop's head, and where the runs before a word were passed, from where the word is known
 abbrev entry : tie.At-loop Inv-loop μ-loop → tie.Start Inv-loop μ-loop
 entry l = l .before .before .before .before .before
 
-abbrev head : tie.After-covers Inv-loop μ-loop → tie.At-loop Inv-loop μ-loop
-head v = v .before .before .before .before .before
+abbrev top : tie.After-list-runs Inv-loop μ-loop → tie.At-loop Inv-loop μ-loop
+top p = p .before .before .before
+
+abbrev head : tie.After-covers Inv-loop μ-loop → tie.After-list-runs Inv-loop μ-loop
+head v = v .before .before .before .before .before .before .before
+
+small-end : (s : tie.Start Inv-loop μ-loop) → s .args .end < 65536
+small-end s = omega arith
+
+-- what the runs left in the list
+abbrev filled : tie.After-list-runs Inv-loop μ-loop → List ℕ
+filled p = p .list-runs .last .1 .1 .1 .1 .1 .1 .1 .1 .0
 
 -- the step that is computed once
 stepped : (l : tie.At-loop Inv-loop μ-loop) → l .before .before .doubled .result ≡ stepOf (entry l .args .thinning)
 stepped l = l .before .before .doubled .ensures ∙ (rw (one-mul (2 ^ (entry l .args .thinning))))
 
+-- what is filled where the runs were passed
+passed : (p : tie.After-list-runs Inv-loop μ-loop) → let a = entry (top p) .args in let r = p .list-runs .result in
+    Filling (crateNumbersFrom (a .end) (a .thinning) (a .begin) (words16 (a .bytes .now))) (a .out .now) (filled p)
+    (here (a .end) (a .thinning) (a .bytes .now) (r .at) (r .start)) (r .n)
+passed p = let e = p .list-runs .ensures in wrote (e .split) (e .wrote) (top p .loop .inv .3)
+
 -- the word at hand
-abbrev word : tie.At-loop Inv-loop μ-loop → ℕ
-word l = be16 (entry l .args .bytes .now) (l .loop .at)
+abbrev word : tie.After-list-runs Inv-loop μ-loop → ℕ
+word p = be16 (entry (top p) .args .bytes .now) (p .list-runs .result .at)
 
 covered : (v : tie.After-covers Inv-loop μ-loop) → v .covers .result ≡ coversOf (word (head v))
 covered v = v .covers .ensures ∙ ap coversOf (v .before .pair .ensures)
 
+-- there is one
+more : (v : tie.After-covers Inv-loop μ-loop) → let p = head v in p .list-runs .result .at + 1 < length (entry (top p) .args .bytes .now)
+more v = v .before .before .before .before .if1 .left
+
 -- where it stops
-abbrev stop : tie.At-loop Inv-loop μ-loop → ℕ
-stop l = stopAt (l .loop .start) (entry l .args .end) (entry l .args .thinning) (word l)
+abbrev stop : tie.After-list-runs Inv-loop μ-loop → ℕ
+stop p = let a = entry (top p) .args in stopAt (p .list-runs .result .start) (a .end) (a .thinning) (word p)
 
 stops : (c : tie.After-stop-at Inv-loop μ-loop) → c .stop-at .result ≡ stop (head (c .before .before))
-stops c = let v = c .before .before in let l = head v in let a = entry l .args in
-    c .stop-at .ensures ∙ ap (stopAt (l .loop .start) (a .end) (a .thinning)) (v .before .pair .ensures)
+stops c = let v = c .before .before in let p = head v in let a = entry (top p) .args in
+    c .stop-at .ensures ∙ ap (stopAt (p .list-runs .result .start) (a .end) (a .thinning)) (v .before .pair .ensures)
 
 -- its numbers were stored
-stored : (c : tie.After-store-word Inv-loop μ-loop) → let l = head (c .before .before .before .before) in let a = entry l .args in
-    Wrote (l .loop .out) (l .loop .n) (added (a .end) (a .thinning) (word l) (l .loop .start)) (c .store-word .last .0) (c .store-word .result)
+stored : (c : tie.After-store-word Inv-loop μ-loop) → let p = head (c .before .before .before .before) in let a = entry (top p) .args in let r = p .list-runs .result in
+    Wrote (filled p) (r .n) (added (a .end) (a .thinning) (word p) (r .start)) (c .store-word .last .0) (c .store-word .result)
 stored c = let p = c .before .before in
     let v = p .before .before in
-    rw (← stops p, ← stepped (head v), ← v .before .pair .ensures) (c .store-word .ensures)
+    rw (← stops p, ← stepped (top (head v)), ← v .before .pair .ensures) (c .store-word .ensures)
 
 -- what is filled where the loop goes on
-onward : (c : tie.Joined1 Inv-loop μ-loop) → let l = head (c .before) in let a = entry l .args in
-    Filling (crateNumbersFrom (a .end) (a .thinning) (a .begin) (words16 (a .bytes .now))) (a .out .now) (c .if1 .out)
-    (here (a .end) (a .thinning) (a .bytes .now) (l .loop .at + 2) (movedBy (coversOf (word l)) (a .thinning) (l .loop .start))) (c .if1 .n)
-onward c = let v = c .before in let l = head v in let a = entry l .args in
-    let h = v .before .before .before .before .loop-test .taken in
+onward : (c : tie.Joined2 Inv-loop μ-loop) → let p = head (c .before) in let a = entry (top p) .args in let r = p .list-runs .result in
+    Filling (crateNumbersFrom (a .end) (a .thinning) (a .begin) (words16 (a .bytes .now))) (a .out .now) (c .if2 .out)
+    (here (a .end) (a .thinning) (a .bytes .now) (r .at + 2) (movedBy (coversOf (word p)) (a .thinning) (r .start))) (c .if2 .n)
+onward c = let v = c .before in let p = head v in let a = entry (top p) .args in let r = p .list-runs .result in
+    let s = p .list-runs .ensures .small in
     ⊎-elim
-    (λ w. let p : tie.After-stop-at Inv-loop μ-loop = record { before = record { before = v; if1 = w .0 }; stop-at = w .1 } in
-    let k : tie.After-store-word Inv-loop μ-loop = record { before = record { before = p; store-word-arg = w .2 }; store-word = w .3 } in
-    let e : coversOf (word l) ≤ stop l = rw (← stops p, ← covered v) (w .6 .left) in
-    settled (w .7) (w .8) (wrote (here-next (a .end) (a .thinning) (a .bytes .now) (l .loop .at) (l .loop .start) (l .loop .inv .1) h e) (stored k) (l .loop .inv .3)))
-    (λ w. let z : word l < 16384 = rw (← v .before .pair .ensures) (w .0 .left) in
-    settled (w .1) (w .2) (skip (here-zeros (a .end) (a .thinning) (a .bytes .now) (l .loop .at) (l .loop .start) (l .loop .inv .1) h z) (l .loop .inv .3)))
-    (c .if1 .came)
+    (λ w. let q : tie.After-stop-at Inv-loop μ-loop = record { before = record { before = v; if2 = w .0 }; stop-at = w .1 } in
+    let k : tie.After-store-word Inv-loop μ-loop = record { before = record { before = q; store-word-arg = w .2 }; store-word = w .3 } in
+    let e : coversOf (word p) ≤ stop p = rw (← stops q, ← covered v) (w .6 .left) in
+    settled (w .7) (w .8) (wrote (here-next (a .end) (a .thinning) (a .bytes .now) (r .at) (r .start) s (more v) e) (stored k) (passed p)))
+    (λ w. let z : word p < 16384 = rw (← v .before .pair .ensures) (w .0 .left) in
+    settled (w .1) (w .2) (skip (here-zeros (a .end) (a .thinning) (a .bytes .now) (r .at) (r .start) s (more v) z) (passed p)))
+    (c .if2 .came)
 
 -- the start and the first place that fails, for the next word
-next : (c : tie.Joined3 Inv-loop μ-loop) → let l = head (c .before .before) in let a = entry l .args in
-    (c .if3 .start ≡ movedBy (coversOf (word l)) (a .thinning) (l .loop .start)) × (c .if3 .first ≡ firstFail (c .if3 .start) (a .end) (a .thinning))
-next c = let v = c .before .before in let l = head v in let a = entry l .args in
-    let cov = ap (λ (n : ℕ). movedBy n (a .thinning) (l .loop .start)) (covered v) in
+next : (c : tie.Joined4 Inv-loop μ-loop) → let p = head (c .before .before) in let a = entry (top p) .args in
+    (c .if4 .start ≡ movedBy (coversOf (word p)) (a .thinning) (p .list-runs .result .start)) × (c .if4 .first ≡ firstFail (c .if4 .start) (a .end) (a .thinning))
+next c = let v = c .before .before in let p = head v in let a = entry (top p) .args in let r = p .list-runs .result in
+    let cov = ap (λ (n : ℕ). movedBy n (a .thinning) (r .start)) (covered v) in
     ⊎-elim
     (λ w. (w .3 ∙ w .1 .ensures ∙ cov, rw (w .3, w .4) (w .2 .ensures)))
-    (λ w. (w .1 ∙ sym (next-same (l .loop .start) (a .end) (a .thinning) (v .covers .result) (l .loop .inv .1) (omega arith) (w .0 .left)) ∙ cov, rw (w .1, w .2) (l .loop .inv .2)))
-    (c .if3 .came)
+    (λ w. (w .1 ∙ sym (next-same (r .start) (a .end) (a .thinning) (v .covers .result) (p .list-runs .ensures .small) (small-end (entry (top p))) (w .0 .left)) ∙ cov, rw (w .1, w .2) (p .list-runs .ensures .fails)))
+    (c .if4 .came)
 
 doubled-requires : tie.Need-doubled-requires Inv-loop μ-loop
 doubled-requires c κs = search needs
@@ -99,8 +120,22 @@ first-fail-requires c κs = search needs
 loop-holds : tie.Need-loop-holds Inv-loop μ-loop
 loop-holds c = let s = c .before .before .before .before in (omega arith, omega arith, c .first-fail .ensures, begun (s .pre))
 
-add-loop : tie.Need-add-loop Inv-loop μ-loop
-add-loop c = search needs
+list-runs-requires : tie.Need-list-runs-requires Inv-loop μ-loop
+list-runs-requires c κs = let l = c .before .before in
+    let i = l .loop .inv in
+    (i .0, i .2, stepped l, omega (arith, i .3 .count, i .3 .same, i .3 .room))
+
+add-if1 : tie.Need-add-if1 Inv-loop μ-loop
+add-if1 c = search needs
+
+same-length : tie.Need-same-length Inv-loop μ-loop
+same-length c = passed (c .before .before .before) .same
+
+returns : tie.Need-returns Inv-loop μ-loop
+returns c = let p = c .before .before .before in
+    let a = entry (top p) .args in
+    let r = p .list-runs .result in
+    done (here-end (a .end) (a .thinning) (a .bytes .now) (r .at) (r .start) (c .if1 .taken)) (passed p)
 
 shared-slice-read-pair : tie.Need-shared-slice-read-pair Inv-loop μ-loop
 shared-slice-read-pair c = search needs
@@ -118,61 +153,63 @@ covers-requires : tie.Need-covers-requires Inv-loop μ-loop
 covers-requires c κs = search needs
 
 stop-at-requires : tie.Need-stop-at-requires Inv-loop μ-loop
-stop-at-requires c κs = search needs
+stop-at-requires c κs = head (c .before) .list-runs .ensures .fails
 
 store-word-requires : tie.Need-store-word-requires Inv-loop μ-loop
-store-word-requires c κs = let p = c .before in
-    let v = p .before .before in
-    let l = head v in
-    let a = entry l .args in
-    let k = here-word (a .end) (a .thinning) (a .bytes .now) (l .loop .at) (l .loop .start) (l .loop .inv .1) (v .before .before .before .before .loop-test .taken) in
-    room-for (along (l .before .before .doubled .result) (l .loop .start) (take (p .stop-at .result) (valuesIn (v .before .pair .result)))) (k .0)
-    (k .1 ∙ ap (λ (x : List ℕ). x ++ k .0) (sym (along-same (l .loop .start) (stepped l) (stops p) (v .before .pair .ensures)))) (l .loop .inv .3)
+store-word-requires c κs = let q = c .before in
+    let v = q .before .before in
+    let p = head v in
+    let a = entry (top p) .args in
+    let r = p .list-runs .result in
+    let k = here-word (a .end) (a .thinning) (a .bytes .now) (r .at) (r .start) (p .list-runs .ensures .small) (more v) in
+    room-for (along (top p .before .before .doubled .result) (r .start) (take (q .stop-at .result) (valuesIn (v .before .pair .result)))) (k .0)
+    (k .1 ∙ ap (λ (x : List ℕ). x ++ k .0) (sym (along-same (r .start) (stepped (top p)) (stops q) (v .before .pair .ensures)))) (passed p)
 
-cast-if2 : tie.Need-cast-if2 Inv-loop μ-loop
-cast-if2 c = search needs
+cast-if3 : tie.Need-cast-if3 Inv-loop μ-loop
+cast-if3 c = search needs
 
-same-length : tie.Need-same-length Inv-loop μ-loop
-same-length c = search needs
+same-length-2 : tie.Need-same-length-2 Inv-loop μ-loop
+same-length-2 c = let w = c .before .before .before in same (stored w) ∙ passed (head (w .before .before .before .before)) .same
 
-returns : tie.Need-returns Inv-loop μ-loop
-returns c = let w = c .before .before .before in
-    let p = w .before .before in
-    let v = p .before .before in
-    let l = head v in
-    let a = entry l .args in
-    let e : stop l < coversOf (word l) = rw (← stops p, ← covered v) (c .if2 .taken) in
-    wrote-last (here-last (a .end) (a .thinning) (a .bytes .now) (l .loop .at) (l .loop .start) (l .loop .inv .1) (v .before .before .before .before .loop-test .taken) e) (stored w) (l .loop .inv .3)
+returns-2 : tie.Need-returns-2 Inv-loop μ-loop
+returns-2 c = let w = c .before .before .before in
+    let q = w .before .before in
+    let v = q .before .before in
+    let p = head v in
+    let a = entry (top p) .args in
+    let r = p .list-runs .result in
+    let e : stop p < coversOf (word p) = rw (← stops q, ← covered v) (c .if3 .taken) in
+    wrote-last (here-last (a .end) (a .thinning) (a .bytes .now) (r .at) (r .start) (p .list-runs .ensures .small) (more v) e) (stored w) (passed p)
 
 moved-by-requires : tie.Need-moved-by-requires Inv-loop μ-loop
 moved-by-requires c κs = search needs
 
 next-fail-requires : tie.Need-next-fail-requires Inv-loop μ-loop
-next-fail-requires c κs = search needs
+next-fail-requires c κs = (head (c .before .before .before) .list-runs .ensures .fails, c .moved-by .ensures)
 
 add-at : tie.Need-add-at Inv-loop μ-loop
 add-at c = search needs
 
 loop-less : tie.Need-loop-less Inv-loop μ-loop
-loop-less c = search needs
+loop-less c = let v = c .before .before in omega (arith, more v, head v .list-runs .ensures .onward)
 
 loop-again : tie.Need-loop-again Inv-loop μ-loop
 loop-again c = let v = c .before .before in
-    let l = head v in
+    let p = head v in
     let n = next c in (
-      omega arith,
-      rw (n .0) (mod-lt (l .loop .start + coversOf (word l) * 2 ^ entry l .args .thinning % 65536) (lit< tt)),
+      omega (arith, more v),
+      rw (n .0) (mod-lt (p .list-runs .result .start + coversOf (word p) * 2 ^ entry (top p) .args .thinning % 65536) (lit< tt)),
       n .1,
       rw (n .0) (onward (c .before)),
     )
 
-same-length-2 : tie.Need-same-length-2 Inv-loop μ-loop
-same-length-2 c = search needs
+same-length-3 : tie.Need-same-length-3 Inv-loop μ-loop
+same-length-3 c = c .before .loop .inv .3 .same
 
-returns-2 : tie.Need-returns-2 Inv-loop μ-loop
-returns-2 c = let l = c .before in
+returns-3 : tie.Need-returns-3 Inv-loop μ-loop
+returns-3 c = let l = c .before in
     let a = entry l .args in
-    done (here-end (a .end) (a .thinning) (a .bytes .now) (l .loop .at) (l .loop .start) (c .loop-test .left)) (l .loop .inv .3)
+    done (here-end (a .end) (a .thinning) (a .bytes .now) (l .loop .at) (l .loop .start) (omega (arith, c .loop-test .left))) (l .loop .inv .3)
 
 pub list-crate-spec : {M : Type 1} → statement M
 list-crate-spec =
@@ -183,7 +220,10 @@ list-crate-spec =
     doubled-requires
     first-fail-requires
     loop-holds
-    add-loop
+    list-runs-requires
+    add-if1
+    same-length
+    returns
     shared-slice-read-pair
     add-pair
     shared-slice-read-pair-2
@@ -191,13 +231,13 @@ list-crate-spec =
     covers-requires
     stop-at-requires
     store-word-requires
-    cast-if2
-    same-length
-    returns
+    cast-if3
+    same-length-2
+    returns-2
     moved-by-requires
     next-fail-requires
     add-at
     loop-less
     loop-again
-    same-length-2
-    returns-2)
+    same-length-3
+    returns-3)

@@ -15,7 +15,8 @@ use Rattle.old_crate.specs.Crate.{crateNumbersFrom}
 use Rattle.rle.specs.Inside.{stepOf}
 use Rattle.rle.specs.Failing.{stopAt, firstFail}
 use Rattle.rle.proofs.WordLaws.{length-ones, along-same}
-use Rattle.rle.proofs.CrateTurn.{here, added, length-here, here-end, here-zeros, count-room, count-last, count-next}
+use Rattle.rle.specs.Runs.{here}
+use Rattle.rle.proofs.CrateTurn.{added, length-here, here-end, here-zeros, count-room, count-last, count-next}
 use Rattle.rle.proofs.list.tally_crate.Statement.{statement}
 use Rattle.rle.proofs.list.tally_crate.Tie as tie
 

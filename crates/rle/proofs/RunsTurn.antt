@@ -1,0 +1,89 @@
+-- Runs of ones that are passed whole: one turn of `list_runs`, on plain lists and numbers. Assumes nothing.
+use Prim.Native.Nat.{ℕ, _+_, _*_, min, _%_, _^_, _≤_, _<_}
+use mathlib.Core.Path.{_≡_, refl, sym, ap, _∙_}
+use mathlib.Core.Bool.{true, _&&_}
+use mathlib.Core.List.{List, [], _++_, append-assoc}
+use native.Mathlib.Nat.{add-zero, mod-lt}
+use native.Mathlib.Omega.{arith}
+use lib.Dec.{ltb, leb, lit<}
+use lib.ListN.{length, length-append}
+use borrow.Author.Tests.{ltb-true, leb-true}
+use Rattle.base.proofs.Tests.{and-true}
+use Rattle.base.proofs.Stores.{Wrote, and-then, same}
+use Rattle.wire.specs.Bytes.{be16}
+use Rattle.chunk.proofs.ChunkLaws.{covers-run}
+use Rattle.standard.specs.Chunks.{coversOf}
+use Rattle.old_crate.specs.Sequence.{movedBy}
+use Rattle.rle.specs.Along.{progression}
+use Rattle.rle.specs.Inside.{stepOf}
+use Rattle.rle.specs.Failing.{firstFail, stopAt}
+use Rattle.rle.specs.Runs.{here, Ran}
+use Rattle.rle.proofs.ListingLaws.{length-progression}
+use Rattle.rle.proofs.WordLaws.{word-ones}
+use Rattle.rle.proofs.StopLaws.{stop-clear}
+use Rattle.rle.proofs.CrateTurn.{added, here-next}
+
+-- a run of ones that ends before the first place that fails, or at it
+pub record Clear (w first : ℕ) : Type 0 where
+  pub ones : 16384 ≤ w
+  pub run : w < 32768
+  pub clear : w % 16384 ≤ first
+
+pub clear-run : (w first : ℕ) → (leb 16384 w && (ltb w 32768 && leb (w % 16384) first)) ≡ true → Clear w first
+clear-run w first e =
+    let a = and-true (leb 16384 w) (ltb w 32768 && leb (w % 16384) first) e in
+    let b = and-true (ltb w 32768) (leb (w % 16384) first) (a .1) in
+    record { ones = leb-true _ _ (a .0); run = ltb-true _ _ (b .0); clear = leb-true _ _ (b .1) }
+
+module _ (end t : ℕ) (bytes : List ℕ) (at₀ start₀ : ℕ) (l₀ : List ℕ) (n₀ : ℕ) where
+  pub begun : (first : ℕ) → at₀ ≤ length bytes → start₀ < 65536 → first ≡ firstFail start₀ end t → Ran end t bytes at₀ start₀ l₀ n₀ at₀ start₀ first l₀ n₀
+  begun first h s f =
+      record {
+        onward = omega arith;
+        within = h;
+        small = s;
+        fails = f;
+        numbers = [];
+        split = refl;
+        wrote = record { stored = refl; past = sym (add-zero n₀) };
+      }
+
+  module _ (at start first : ℕ) (l : List ℕ) (n : ℕ) (r : Ran end t bytes at₀ start₀ l₀ n₀ at start first l n) (e : end < 65536) (h : at + 1 < length bytes)
+      (c : Clear (be16 bytes at) first) where
+    abbrev w : ℕ
+    w = be16 bytes at
+
+    abbrev count : ℕ
+    count = w % 16384
+
+    covers : coversOf w ≡ count
+    covers = covers-run w (c .run)
+
+    stops : stopAt start end t w ≡ coversOf w
+    stops = stop-clear start end t w (r .small) e (omega (arith, covers, c .clear, r .fails))
+
+    -- the word's numbers come next
+    pub next : here end t bytes at start ≡ progression (stepOf t) start count ++ here end t bytes (at + 2) (movedBy count t start)
+    next =
+        let m : min (stopAt start end t w) count ≡ count = omega (arith, stops, covers) in
+        here-next end t bytes at start (r .small) h (omega (arith, stops))
+        ∙ ap (λ (xs : List ℕ). xs ++ here end t bytes (at + 2) (movedBy (coversOf w) t start)) (word-ones (stepOf t) start (stopAt start end t w) w (c .ones) (c .run) ∙ ap (progression (stepOf t) start) m)
+        ∙ ap (λ (k : ℕ). progression (stepOf t) start count ++ here end t bytes (at + 2) (movedBy k t start)) covers
+
+    -- there is room for them
+    pub room : n₀ + length (here end t bytes at₀ start₀) ≤ length l₀ → n + count ≤ length l
+    room k =
+        omega (arith, k, same (r .wrote), r .wrote .past, ap length (r .split) ∙ length-append (r .numbers) (here end t bytes at start), ap length next ∙ length-append (progression (stepOf t) start count) (here end t bytes (at + 2) (movedBy count t start)), length-progression (stepOf t) start count)
+
+    pub turned : (l′ : List ℕ) (n′ start′ first′ : ℕ) → Wrote l n (progression (stepOf t) start count) l′ n′ → start′ ≡ movedBy count t start → first′ ≡ firstFail start′ end t
+        → Ran end t bytes at₀ start₀ l₀ n₀ (at + 2) start′ first′ l′ n′
+    turned l′ n′ start′ first′ w′ m f =
+        record {
+          onward = omega (arith, r .onward);
+          within = omega arith;
+          small = rw m (mod-lt (start + count * 2 ^ t % 65536) (lit< tt));
+          fails = f;
+          numbers = r .numbers ++ progression (stepOf t) start count;
+          split = r .split ∙ ap (λ (x : List ℕ). r .numbers ++ x) next ∙ sym (append-assoc (r .numbers) (progression (stepOf t) start count) _) ∙ (rw m);
+          wrote = and-then (r .wrote) w′;
+        }

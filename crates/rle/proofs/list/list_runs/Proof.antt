@@ -1,0 +1,141 @@
+-- `rle::list::list_runs` meets its contract: its invariant is `Ran`, and each need cites a law of one turn. Assumes nothing.
+use Prim.Native.Nat.{ℕ, _+_, _-_, _%_}
+use mathlib.Core.Bool.{true, _&&_}
+use mathlib.Core.Path.{_≡_, sym, ap, _∙_}
+use native.Mathlib.Omega.{arith}
+use borrow.Author.Tests.{not-false}
+use borrow.Author.Needs.{needs}
+use lib.Dec.{ltb, leb}
+use lib.ListN.{length}
+use Rattle.base.proofs.Stores.{Wrote, same}
+use Rattle.wire.specs.Bytes.{be16}
+use Rattle.old_crate.specs.Sequence.{movedBy}
+use Rattle.rle.specs.Along.{progression}
+use Rattle.rle.specs.Inside.{stepOf}
+use Rattle.rle.specs.Runs.{Ran}
+use Rattle.rle.proofs.RunsTurn.{Clear, clear-run, begun, room, turned}
+use Rattle.rle.proofs.list.list_runs.Statement.{statement}
+use Rattle.rle.proofs.list.list_runs.Tie as tie
+
+abbrev Inv-loop : tie.InvT-loop
+Inv-loop bytes end thinning from stored begin clear step out₀ at₀ n₀ start₀ first₀ out at n start first =
+    Ran end thinning bytes from begin out₀ stored at start first out n
+
+abbrev μ-loop : tie.MeasureT-loop
+μ-loop bytes end thinning from stored begin clear step out₀ at₀ n₀ start₀ first₀ out at n start first =
+    length bytes - at
+
+-- the function's entry, from the loop's head, and the loop's head, from where a word is known to be passed
+abbrev entry : tie.At-loop Inv-loop μ-loop → tie.Start Inv-loop μ-loop
+entry l = l .before .before .before
+
+abbrev head : tie.Else1 Inv-loop μ-loop → tie.At-loop Inv-loop μ-loop
+head e = e .before .before .before .before .before .before
+
+abbrev word : tie.At-loop Inv-loop μ-loop → ℕ
+word l = be16 (entry l .args .bytes .now) (l .loop .at)
+
+clear : (e : tie.Else1 Inv-loop μ-loop) → Clear (word (head e)) (head e .loop .first)
+clear e = let k = e .before in
+    clear-run (word (head e)) (head e .loop .first)
+    (ap (λ (w : ℕ). leb 16384 w && (ltb w 32768 && leb (w % 16384) (head e .loop .first))) (sym (k .before .pair .ensures)) ∙ sym (k .is-clear-run .ensures) ∙ not-false _ (e .if1 .left))
+
+counted : (c : tie.After-run-length Inv-loop μ-loop) → c .run-length .result ≡ word (head (c .before)) % 16384
+counted c = c .run-length .ensures ∙ ap (λ (w : ℕ). w % 16384) (c .before .before .before .pair .ensures)
+
+loop-holds : tie.Need-loop-holds Inv-loop μ-loop
+loop-holds c = let s = c .before .before in let a = s .args in begun (a .end) (a .thinning) (a .bytes .now) (a .from) (a .begin) (a .out .now) (a .stored) (a .clear) (s .pre .0) (omega arith) (s .pre .1)
+
+add-loop : tie.Need-add-loop Inv-loop μ-loop
+add-loop c = search needs
+
+shared-slice-read-pair : tie.Need-shared-slice-read-pair Inv-loop μ-loop
+shared-slice-read-pair c = search needs
+
+add-pair : tie.Need-add-pair Inv-loop μ-loop
+add-pair c = search needs
+
+shared-slice-read-pair-2 : tie.Need-shared-slice-read-pair-2 Inv-loop μ-loop
+shared-slice-read-pair-2 c = search needs
+
+pair-requires : tie.Need-pair-requires Inv-loop μ-loop
+pair-requires c κs = search needs
+
+is-clear-run-requires : tie.Need-is-clear-run-requires Inv-loop μ-loop
+is-clear-run-requires c κs = search needs
+
+same-length : tie.Need-same-length Inv-loop μ-loop
+same-length c = same (c .before .before .before .before .before .before .loop .inv .wrote)
+
+returns : tie.Need-returns Inv-loop μ-loop
+returns c = c .before .before .before .before .before .before .loop .inv
+
+run-length-requires : tie.Need-run-length-requires Inv-loop μ-loop
+run-length-requires c κs = search needs
+
+cast-store-run : tie.Need-cast-store-run Inv-loop μ-loop
+cast-store-run c = search needs
+
+store-run-requires : tie.Need-store-run-requires Inv-loop μ-loop
+store-run-requires c κs = let r = c .before in
+    let e = r .before in
+    let l = head e in
+    let s = entry l in
+    let a = s .args in
+    rw (counted r)
+    (room (a .end) (a .thinning) (a .bytes .now) (a .from) (a .begin) (a .out .now) (a .stored) (l .loop .at) (l .loop .start) (l .loop .first) (l .loop .out) (l .loop .n) (l .loop .inv) (omega arith) (e .before .before .before .before .before .loop-test .taken) (clear e) (s .pre .3))
+
+moved-by-requires : tie.Need-moved-by-requires Inv-loop μ-loop
+moved-by-requires c κs = search needs
+
+next-fail-requires : tie.Need-next-fail-requires Inv-loop μ-loop
+next-fail-requires c κs = search needs
+
+add-at : tie.Need-add-at Inv-loop μ-loop
+add-at c = search needs
+
+loop-less : tie.Need-loop-less Inv-loop μ-loop
+loop-less c = search needs
+
+loop-again : tie.Need-loop-again Inv-loop μ-loop
+loop-again c = let m = c .before in
+    let w = m .before .before .before in
+    let r = w .before .before in
+    let e = r .before in
+    let l = head e in
+    let s = entry l in
+    let a = s .args in
+    turned (a .end) (a .thinning) (a .bytes .now) (a .from) (a .begin) (a .out .now) (a .stored) (l .loop .at) (l .loop .start) (l .loop .first) (l .loop .out) (l .loop .n) (l .loop .inv) (omega arith) (e .before .before .before .before .before .loop-test .taken) (clear e)
+    (w .store-run .last .0) (w .store-run .result) (m .moved-by .result) (c .next-fail .result) (rw (← counted r, ← s .pre .2) (w .store-run .ensures)) (m .moved-by .ensures ∙ ap (λ (k : ℕ). movedBy k (a .thinning) (l .loop .start)) (counted r)) (c .next-fail .ensures)
+
+same-length-2 : tie.Need-same-length-2 Inv-loop μ-loop
+same-length-2 c = same (c .before .loop .inv .wrote)
+
+returns-2 : tie.Need-returns-2 Inv-loop μ-loop
+returns-2 c = c .before .loop .inv
+
+pub list-runs-spec : {M : Type 1} → statement M
+list-runs-spec =
+    tie.close
+    (tie.spec
+    Inv-loop
+    μ-loop
+    loop-holds
+    add-loop
+    shared-slice-read-pair
+    add-pair
+    shared-slice-read-pair-2
+    pair-requires
+    is-clear-run-requires
+    same-length
+    returns
+    run-length-requires
+    cast-store-run
+    store-run-requires
+    moved-by-requires
+    next-fail-requires
+    add-at
+    loop-less
+    loop-again
+    same-length-2
+    returns-2)
