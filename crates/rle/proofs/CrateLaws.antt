@@ -25,7 +25,7 @@ use Rattle.rle.proofs.ListingLaws.{length-along-le}
 use Rattle.rle.proofs.WordLaws.{word-zeros}
 
 -- the next place's number is one step on
-sequenceOf-suc : (q start t : ℕ) → sequenceOf (suc q) start t ≡ onward (stepOf t) (sequenceOf q start t)
+pub sequenceOf-suc : (q start t : ℕ) → sequenceOf (suc q) start t ≡ onward (stepOf t) (sequenceOf q start t)
 sequenceOf-suc q start t = let m = 2 ^ t in
     rw (mod-add-mod (suc q * m) circle start, mod-add-mod (q * m) circle start, mod-add-mod (q * m + start) circle (m % circle), add-mod-mod (q * m + start) m circle)
     (ap (λ (x : ℕ). x % circle) (let e : suc q * m + start ≡ q * m + start + m = omega arith in e))

@@ -9,7 +9,7 @@ use lib.ListN.{length, replicate}
 use lib.Dec.{eqb}
 use Rattle.base.proofs.Tests.{both, either}
 use Rattle.standard.specs.Listing.{listFrom}
-use Rattle.rle.specs.Along.{onward, progression, along}
+use Rattle.rle.specs.Along.{onward, progression, past, along}
 
 -- x in front of either side of a choice
 cond-append : {A : Type 0} (b : Bool) (x : A) (l r : List A) → cond b (x ∷ l) l ++ r ≡ cond b (x ∷ (l ++ r)) (l ++ r)
@@ -85,3 +85,12 @@ progression-none step first n e = rw e
 -- no more are listed than there are values
 pub length-along-le : (step first : ℕ) (vs : List ℕ) → length (along step first vs) ≤ length vs
 length-along-le step first vs = rw (length-along step first 0 vs) (length-listFrom (λ (q v : ℕ). eqb v 1) (λ (q v : ℕ). q) 0 vs)
+
+-- the number after a run
+pub past-none : (step first n : ℕ) → n ≡ 0 → first ≡ past step first n
+unfolding past
+past-none step first n e = rw e
+
+pub past-more : (step first n m : ℕ) → m ≡ suc n → onward step (past step first n) ≡ past step first m
+unfolding past
+past-more step first n m e = rw e

@@ -1,5 +1,5 @@
 -- Runs of ones that are passed whole: one turn of `list_runs`, on plain lists and numbers. Assumes nothing.
-use Prim.Native.Nat.{ℕ, _+_, _*_, min, _%_, _^_, _≤_, _<_}
+use Prim.Native.Nat.{ℕ, zero, suc, _+_, _*_, min, _%_, _^_, _≤_, _<_}
 use mathlib.Core.Path.{_≡_, refl, sym, ap, _∙_}
 use mathlib.Core.Bool.{true, _&&_}
 use mathlib.Core.List.{List, [], _++_, append-assoc}
@@ -14,14 +14,23 @@ use Rattle.wire.specs.Bytes.{be16}
 use Rattle.chunk.proofs.ChunkLaws.{covers-run}
 use Rattle.standard.specs.Chunks.{coversOf}
 use Rattle.old_crate.specs.Sequence.{movedBy}
-use Rattle.rle.specs.Along.{progression}
+use Rattle.rle.specs.Along.{onward, progression, past}
 use Rattle.rle.specs.Inside.{stepOf}
 use Rattle.rle.specs.Failing.{firstFail, stopAt}
 use Rattle.rle.specs.Runs.{here, Ran}
 use Rattle.rle.proofs.ListingLaws.{length-progression}
 use Rattle.rle.proofs.WordLaws.{word-ones}
-use Rattle.rle.proofs.StopLaws.{stop-clear}
+use Rattle.rle.proofs.StopLaws.{stop-clear, moved-sequence}
+use Rattle.rle.proofs.NextLaws.{next-same}
+use Rattle.rle.proofs.CrateLaws.{sequenceOf-suc}
 use Rattle.rle.proofs.CrateTurn.{added, here-next}
+
+-- the number after a run is where the start moves to
+pub past-moved : (t start n : ℕ) → start < 65536 → past (stepOf t) start n ≡ movedBy n t start
+unfolding past
+past-moved t start zero s = sym (next-same start 0 t 0 s (lit< tt) refl)
+past-moved t start (suc n) s =
+    ap (onward (stepOf t)) (past-moved t start n s ∙ moved-sequence n t start) ∙ sym (sequenceOf-suc n start t) ∙ sym (moved-sequence (suc n) t start)
 
 -- a run of ones that ends before the first place that fails, or at it
 pub record Clear (w first : ℕ) : Type 0 where

@@ -1,5 +1,6 @@
 -- Numbers one step apart on the circle of 65,536, one for each value; those of value one are listed.
 --     progression    a run of them
+--     past           the one after a run
 --     along          those of value one
 use Prim.Native.Nat.{ℕ, zero, suc, _+_, _%_}
 use mathlib.Core.Bool.{cond}
@@ -17,6 +18,11 @@ onward step first = (first + step) % circle
 unfoldable pub progression : ℕ → ℕ → ℕ → List ℕ
 progression step first zero = []
 progression step first (suc n) = first ∷ progression step (onward step first) n
+
+-- the number n steps on
+unfoldable pub past : ℕ → ℕ → ℕ → ℕ
+past step first zero = first
+past step first (suc n) = onward step (past step first n)
 
 -- the first value has the first number
 unfoldable pub along : ℕ → ℕ → List ℕ → List ℕ

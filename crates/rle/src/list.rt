@@ -1,6 +1,6 @@
 // The lists, into slices that have room for them. Private to the crate.
 ghost use mathlib.Core.Path.{_≡_};
-ghost use Prim.Native.Nat.{_+_, _%_, _≤_};
+ghost use Prim.Native.Nat.{_+_, _-_, _%_, _≤_};
 ghost use mathlib.Core.Bool.{_&&_};
 ghost use lib.Dec.{leb, ltb};
 ghost use lib.ListN.{length};
@@ -111,16 +111,17 @@ fn list_runs(
     begin: u16,
     clear: usize,
     step: u16,
+    last: usize,
     out: &mut [u16],
 ) -> Stand
-    requires { ⌜ (from ≤ length (now bytes)) × (clear ≡ firstFail begin end thinning) × (step ≡ stepOf thinning) × (stored + length (here end thinning (now bytes) from begin) ≤ length (now out)) ⌝ }
+    requires { ⌜ (last ≡ length (now bytes) - 1) × (from ≤ length (now bytes)) × (clear ≡ firstFail begin end thinning) × (step ≡ stepOf thinning) × (stored + length (here end thinning (now bytes) from begin) ≤ length (now out)) ⌝ }
     ensures { λ r. ⌜ Ran end thinning (now (bytes .entry)) from begin (now (out .entry)) stored (r .at) (r .start) (r .first) (now (out .exit)) (r .n) ⌝ }
 {
     let mut at = from;
     let mut n = stored;
     let mut start = begin;
     let mut first = clear;
-    while at + 1 < bytes.len() {
+    while at < last {
         let w = utils::pair(bytes[at], bytes[at + 1]);
         if !is_clear_run(w, first) {
             return Stand {
@@ -131,8 +132,9 @@ fn list_runs(
             };
         }
         let count = chunk::run_length(w);
-        n = crate::word::store_run(out, n, count as usize, start, step);
-        let next = utils::moved_by(count, thinning, start);
+        let r = crate::word::store_run(out, n, count as usize, start, step);
+        n = r.n;
+        let next = r.next;
         first = crate::word::next_fail(first, count, thinning, start, next, end);
         start = next;
         at += 2;
@@ -145,23 +147,34 @@ fn list_runs(
     }
 }
 
+// The index of the last byte; 0 where there is none.
+fn last_of(bytes: &[u8]) -> usize
+    ensures { λ r. ⌜ r ≡ length (now (bytes .entry)) - 1 ⌝ }
+{
+    if bytes.len() == 0 {
+        return 0;
+    }
+    bytes.len() - 1
+}
+
 // The crate's numbers, up to the first that fails. Port of: rle.rs RleSequenceIter::next.
 pub(crate) fn list_crate(bytes: &[u8], end: u16, thinning: u8, begin: u16, out: &mut [u16]) -> usize
     requires { ⌜ length (crateNumbersFrom end thinning begin (words16 (now bytes))) ≤ length (now out) ⌝ }
     ensures { λ r. ⌜ Filled (crateNumbersFrom end thinning begin (words16 (now (bytes .entry)))) (now (out .entry)) r (now (out .exit)) ⌝ }
 {
     let step = utils::doubled(1, thinning);
+    let last = last_of(bytes);
     let mut start = begin;
     let mut first = crate::first_fail(begin, end, thinning);
     let mut at: usize = 0;
     let mut n: usize = 0;
-    while at < bytes.len() {
-        let r = list_runs(bytes, end, thinning, at, n, start, first, step, out);
+    while at < last {
+        let r = list_runs(bytes, end, thinning, at, n, start, first, step, last, out);
         at = r.at;
         n = r.n;
         start = r.start;
         first = r.first;
-        if bytes.len() <= at + 1 {
+        if last <= at {
             return n;
         }
         let w = utils::pair(bytes[at], bytes[at + 1]);

@@ -6,7 +6,7 @@ ghost use lib.Dec.{ltb};
 ghost use lib.ListN.{length, take};
 ghost use Rattle.standard.specs.Chunks.{coversOf, valueOf, valuesIn};
 ghost use Rattle.base.proofs.Stores.{Wrote};
-ghost use Rattle.rle.specs.Along.{progression, along};
+ghost use Rattle.rle.specs.Along.{progression, past, along};
 ghost use Rattle.rle.specs.Inside.{ceilDiv};
 ghost use Rattle.rle.specs.Failing.{firstFail, stopAt};
 ghost use Rattle.rle.specs.Digits.{Top};
@@ -64,20 +64,28 @@ fn number_on(first: u16, q: usize, step: u16) -> u16
     ((first as usize + q * step as usize) % 65536) as u16
 }
 
+// What storing a run leaves: the index past its numbers, and the number after them.
+pub(crate) struct Stored {
+    pub n: usize,
+    pub next: u16,
+}
+
 // Stores a run's numbers, one step apart.
-pub(crate) fn store_run(out: &mut [u16], at: usize, count: usize, first: u16, step: u16) -> usize
+pub(crate) fn store_run(out: &mut [u16], at: usize, count: usize, first: u16, step: u16) -> Stored
     requires { ⌜ at + count ≤ length (now out) ⌝ }
-    ensures { λ r. ⌜ Wrote (now (out .entry)) at (progression step first count) (now (out .exit)) r ⌝ }
+    ensures { λ r. ⌜ Wrote (now (out .entry)) at (progression step first count) (now (out .exit)) (r .n) ⌝ }
+    ensures { λ r. ⌜ r .next ≡ past step first count ⌝ }
 {
-    let end = at + count;
+    let mut left = count;
     let mut n = at;
     let mut x = first;
-    while n < end {
+    while left != 0 {
         out[n] = x;
         x = std::num::wrapping_add_u16(x, step);
         n += 1;
+        left -= 1;
     }
-    n
+    Stored { n, next: x }
 }
 
 // Stores the numbers of a vector's ones, up to a place: one turn for each, from the highest bit down.
@@ -112,13 +120,9 @@ pub(crate) fn store_word(
         return at;
     }
     if w < 0x8000 {
-        return store_run(
-            out,
-            at,
-            least(room, chunk::run_length(w) as usize),
-            first,
-            step,
-        );
+        let ones = least(room, chunk::run_length(w) as usize);
+        let r = store_run(out, at, ones, first, step);
+        return r.n;
     }
     store_vector(out, at, w, least(room, 15), first, step)
 }

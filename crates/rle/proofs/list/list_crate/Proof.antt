@@ -26,16 +26,16 @@ use Rattle.rle.proofs.list.list_crate.Statement.{statement}
 use Rattle.rle.proofs.list.list_crate.Tie as tie
 
 abbrev Inv-loop : tie.InvT-loop
-Inv-loop bytes end thinning begin out₀ step start₀ first₀ at₀ n₀ out start first at n =
+Inv-loop bytes end thinning begin out₀ step last start₀ first₀ at₀ n₀ out start first at n =
     (at ≤ length bytes) × (start < 65536) × (first ≡ firstFail start end thinning)
     × Filling (crateNumbersFrom end thinning begin (words16 bytes)) out₀ out (here end thinning bytes at start) n
 
 abbrev μ-loop : tie.MeasureT-loop
-μ-loop bytes end thinning begin out₀ step start₀ first₀ at₀ n₀ out start first at n = length bytes - at
+μ-loop bytes end thinning begin out₀ step last start₀ first₀ at₀ n₀ out start first at n = length bytes - at
 
 -- the function's entry, from the loop's head; the loop's head, and where the runs before a word were passed, from where the word is known
 abbrev entry : tie.At-loop Inv-loop μ-loop → tie.Start Inv-loop μ-loop
-entry l = l .before .before .before .before .before
+entry l = l .before .before .before .before .before .before
 
 abbrev top : tie.After-list-runs Inv-loop μ-loop → tie.At-loop Inv-loop μ-loop
 top p = p .before .before .before
@@ -48,11 +48,11 @@ small-end s = omega arith
 
 -- what the runs left in the list
 abbrev filled : tie.After-list-runs Inv-loop μ-loop → List ℕ
-filled p = p .list-runs .last .1 .1 .1 .1 .1 .1 .1 .1 .0
+filled p = p .list-runs .last .1 .1 .1 .1 .1 .1 .1 .1 .1 .0
 
 -- the step that is computed once
-stepped : (l : tie.At-loop Inv-loop μ-loop) → l .before .before .doubled .result ≡ stepOf (entry l .args .thinning)
-stepped l = l .before .before .doubled .ensures ∙ (rw (one-mul (2 ^ (entry l .args .thinning))))
+stepped : (l : tie.At-loop Inv-loop μ-loop) → l .before .before .before .doubled .result ≡ stepOf (entry l .args .thinning)
+stepped l = l .before .before .before .doubled .ensures ∙ (rw (one-mul (2 ^ (entry l .args .thinning))))
 
 -- what is filled where the runs were passed
 passed : (p : tie.After-list-runs Inv-loop μ-loop) → let a = entry (top p) .args in let r = p .list-runs .result in
@@ -69,7 +69,7 @@ covered v = v .covers .ensures ∙ ap coversOf (v .before .pair .ensures)
 
 -- there is one
 more : (v : tie.After-covers Inv-loop μ-loop) → let p = head v in p .list-runs .result .at + 1 < length (entry (top p) .args .bytes .now)
-more v = v .before .before .before .before .if1 .left
+more v = omega (arith, v .before .before .before .before .if1 .left, top (head v) .before .before .last-of .ensures)
 
 -- where it stops
 abbrev stop : tie.After-list-runs Inv-loop μ-loop → ℕ
@@ -114,19 +114,19 @@ next c = let v = c .before .before in let p = head v in let a = entry (top p) .a
 doubled-requires : tie.Need-doubled-requires Inv-loop μ-loop
 doubled-requires c κs = search needs
 
+last-of-requires : tie.Need-last-of-requires Inv-loop μ-loop
+last-of-requires c κs = search needs
+
 first-fail-requires : tie.Need-first-fail-requires Inv-loop μ-loop
 first-fail-requires c κs = search needs
 
 loop-holds : tie.Need-loop-holds Inv-loop μ-loop
-loop-holds c = let s = c .before .before .before .before in (omega arith, omega arith, c .first-fail .ensures, begun (s .pre))
+loop-holds c = let s = c .before .before .before .before .before in (omega arith, omega arith, c .first-fail .ensures, begun (s .pre))
 
 list-runs-requires : tie.Need-list-runs-requires Inv-loop μ-loop
 list-runs-requires c κs = let l = c .before .before in
     let i = l .loop .inv in
-    (i .0, i .2, stepped l, omega (arith, i .3 .count, i .3 .same, i .3 .room))
-
-add-if1 : tie.Need-add-if1 Inv-loop μ-loop
-add-if1 c = search needs
+    (l .before .before .last-of .ensures, i .0, i .2, stepped l, omega (arith, i .3 .count, i .3 .same, i .3 .room))
 
 same-length : tie.Need-same-length Inv-loop μ-loop
 same-length c = passed (c .before .before .before) .same
@@ -135,7 +135,7 @@ returns : tie.Need-returns Inv-loop μ-loop
 returns c = let p = c .before .before .before in
     let a = entry (top p) .args in
     let r = p .list-runs .result in
-    done (here-end (a .end) (a .thinning) (a .bytes .now) (r .at) (r .start) (c .if1 .taken)) (passed p)
+    done (here-end (a .end) (a .thinning) (a .bytes .now) (r .at) (r .start) (omega (arith, c .if1 .taken, top p .before .before .last-of .ensures))) (passed p)
 
 shared-slice-read-pair : tie.Need-shared-slice-read-pair Inv-loop μ-loop
 shared-slice-read-pair c = search needs
@@ -162,7 +162,7 @@ store-word-requires c κs = let q = c .before in
     let a = entry (top p) .args in
     let r = p .list-runs .result in
     let k = here-word (a .end) (a .thinning) (a .bytes .now) (r .at) (r .start) (p .list-runs .ensures .small) (more v) in
-    room-for (along (top p .before .before .doubled .result) (r .start) (take (q .stop-at .result) (valuesIn (v .before .pair .result)))) (k .0)
+    room-for (along (top p .before .before .before .doubled .result) (r .start) (take (q .stop-at .result) (valuesIn (v .before .pair .result)))) (k .0)
     (k .1 ∙ ap (λ (x : List ℕ). x ++ k .0) (sym (along-same (r .start) (stepped (top p)) (stops q) (v .before .pair .ensures)))) (passed p)
 
 cast-if3 : tie.Need-cast-if3 Inv-loop μ-loop
@@ -209,7 +209,7 @@ same-length-3 c = c .before .loop .inv .3 .same
 returns-3 : tie.Need-returns-3 Inv-loop μ-loop
 returns-3 c = let l = c .before in
     let a = entry l .args in
-    done (here-end (a .end) (a .thinning) (a .bytes .now) (l .loop .at) (l .loop .start) (omega (arith, c .loop-test .left))) (l .loop .inv .3)
+    done (here-end (a .end) (a .thinning) (a .bytes .now) (l .loop .at) (l .loop .start) (omega (arith, c .loop-test .left, l .before .before .last-of .ensures))) (l .loop .inv .3)
 
 pub list-crate-spec : {M : Type 1} → statement M
 list-crate-spec =
@@ -218,10 +218,10 @@ list-crate-spec =
     Inv-loop
     μ-loop
     doubled-requires
+    last-of-requires
     first-fail-requires
     loop-holds
     list-runs-requires
-    add-if1
     same-length
     returns
     shared-slice-read-pair

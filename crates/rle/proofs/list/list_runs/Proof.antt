@@ -1,5 +1,5 @@
 -- `rle::list::list_runs` meets its contract: its invariant is `Ran`, and each need cites a law of one turn. Assumes nothing.
-use Prim.Native.Nat.{ℕ, _+_, _-_, _%_}
+use Prim.Native.Nat.{ℕ, _+_, _-_, _%_, _<_}
 use mathlib.Core.Bool.{true, _&&_}
 use mathlib.Core.Path.{_≡_, sym, ap, _∙_}
 use native.Mathlib.Omega.{arith}
@@ -10,19 +10,19 @@ use lib.ListN.{length}
 use Rattle.base.proofs.Stores.{Wrote, same}
 use Rattle.wire.specs.Bytes.{be16}
 use Rattle.old_crate.specs.Sequence.{movedBy}
-use Rattle.rle.specs.Along.{progression}
+use Rattle.rle.specs.Along.{progression, past}
 use Rattle.rle.specs.Inside.{stepOf}
 use Rattle.rle.specs.Runs.{Ran}
-use Rattle.rle.proofs.RunsTurn.{Clear, clear-run, begun, room, turned}
+use Rattle.rle.proofs.RunsTurn.{past-moved, Clear, clear-run, begun, room, turned}
 use Rattle.rle.proofs.list.list_runs.Statement.{statement}
 use Rattle.rle.proofs.list.list_runs.Tie as tie
 
 abbrev Inv-loop : tie.InvT-loop
-Inv-loop bytes end thinning from stored begin clear step out₀ at₀ n₀ start₀ first₀ out at n start first =
+Inv-loop bytes end thinning from stored begin clear step last out₀ at₀ n₀ start₀ first₀ out at n start first =
     Ran end thinning bytes from begin out₀ stored at start first out n
 
 abbrev μ-loop : tie.MeasureT-loop
-μ-loop bytes end thinning from stored begin clear step out₀ at₀ n₀ start₀ first₀ out at n start first =
+μ-loop bytes end thinning from stored begin clear step last out₀ at₀ n₀ start₀ first₀ out at n start first =
     length bytes - at
 
 -- the function's entry, from the loop's head, and the loop's head, from where a word is known to be passed
@@ -40,14 +40,22 @@ clear e = let k = e .before in
     clear-run (word (head e)) (head e .loop .first)
     (ap (λ (w : ℕ). leb 16384 w && (ltb w 32768 && leb (w % 16384) (head e .loop .first))) (sym (k .before .pair .ensures)) ∙ sym (k .is-clear-run .ensures) ∙ not-false _ (e .if1 .left))
 
+more : (e : tie.Else1 Inv-loop μ-loop) → let l = head e in l .loop .at + 1 < length (entry l .args .bytes .now)
+more e = let l = head e in omega (arith, e .before .before .before .before .before .loop-test .taken, entry l .pre .0)
+
 counted : (c : tie.After-run-length Inv-loop μ-loop) → c .run-length .result ≡ word (head (c .before)) % 16384
 counted c = c .run-length .ensures ∙ ap (λ (w : ℕ). w % 16384) (c .before .before .before .pair .ensures)
 
-loop-holds : tie.Need-loop-holds Inv-loop μ-loop
-loop-holds c = let s = c .before .before in let a = s .args in begun (a .end) (a .thinning) (a .bytes .now) (a .from) (a .begin) (a .out .now) (a .stored) (a .clear) (s .pre .0) (omega arith) (s .pre .1)
+-- the start moves to the number after the run
+moved : (w : tie.After-store-run Inv-loop μ-loop) → let r = w .before .before in let l = head (r .before) in
+    w .store-run .result .next ≡ movedBy (r .run-length .result) (entry l .args .thinning) (l .loop .start)
+moved w = let r = w .before .before in let l = head (r .before) in let s = entry l in
+    w .store-run .ensures .1
+    ∙ ap (λ (step : ℕ). past step (l .loop .start) (r .run-length .result)) (s .pre .3)
+    ∙ past-moved (s .args .thinning) (l .loop .start) (r .run-length .result) (l .loop .inv .small)
 
-add-loop : tie.Need-add-loop Inv-loop μ-loop
-add-loop c = search needs
+loop-holds : tie.Need-loop-holds Inv-loop μ-loop
+loop-holds c = let s = c .before .before in let a = s .args in begun (a .end) (a .thinning) (a .bytes .now) (a .from) (a .begin) (a .out .now) (a .stored) (a .clear) (s .pre .1) (omega arith) (s .pre .2)
 
 shared-slice-read-pair : tie.Need-shared-slice-read-pair Inv-loop μ-loop
 shared-slice-read-pair c = search needs
@@ -83,13 +91,10 @@ store-run-requires c κs = let r = c .before in
     let s = entry l in
     let a = s .args in
     rw (counted r)
-    (room (a .end) (a .thinning) (a .bytes .now) (a .from) (a .begin) (a .out .now) (a .stored) (l .loop .at) (l .loop .start) (l .loop .first) (l .loop .out) (l .loop .n) (l .loop .inv) (omega arith) (e .before .before .before .before .before .loop-test .taken) (clear e) (s .pre .3))
-
-moved-by-requires : tie.Need-moved-by-requires Inv-loop μ-loop
-moved-by-requires c κs = search needs
+    (room (a .end) (a .thinning) (a .bytes .now) (a .from) (a .begin) (a .out .now) (a .stored) (l .loop .at) (l .loop .start) (l .loop .first) (l .loop .out) (l .loop .n) (l .loop .inv) (omega arith) (more e) (clear e) (s .pre .4))
 
 next-fail-requires : tie.Need-next-fail-requires Inv-loop μ-loop
-next-fail-requires c κs = search needs
+next-fail-requires c κs = let w = c .before .before in (head (w .before .before .before) .loop .inv .fails, moved w)
 
 add-at : tie.Need-add-at Inv-loop μ-loop
 add-at c = search needs
@@ -98,15 +103,14 @@ loop-less : tie.Need-loop-less Inv-loop μ-loop
 loop-less c = search needs
 
 loop-again : tie.Need-loop-again Inv-loop μ-loop
-loop-again c = let m = c .before in
-    let w = m .before .before .before in
+loop-again c = let w = c .before .before .before in
     let r = w .before .before in
     let e = r .before in
     let l = head e in
     let s = entry l in
     let a = s .args in
-    turned (a .end) (a .thinning) (a .bytes .now) (a .from) (a .begin) (a .out .now) (a .stored) (l .loop .at) (l .loop .start) (l .loop .first) (l .loop .out) (l .loop .n) (l .loop .inv) (omega arith) (e .before .before .before .before .before .loop-test .taken) (clear e)
-    (w .store-run .last .0) (w .store-run .result) (m .moved-by .result) (c .next-fail .result) (rw (← counted r, ← s .pre .2) (w .store-run .ensures)) (m .moved-by .ensures ∙ ap (λ (k : ℕ). movedBy k (a .thinning) (l .loop .start)) (counted r)) (c .next-fail .ensures)
+    turned (a .end) (a .thinning) (a .bytes .now) (a .from) (a .begin) (a .out .now) (a .stored) (l .loop .at) (l .loop .start) (l .loop .first) (l .loop .out) (l .loop .n) (l .loop .inv) (omega arith) (more e) (clear e)
+    (w .store-run .last .0) (w .store-run .result .n) (w .store-run .result .next) (c .next-fail .result) (rw (← counted r, ← s .pre .3) (w .store-run .ensures .0)) (moved w ∙ ap (λ (k : ℕ). movedBy k (a .thinning) (l .loop .start)) (counted r)) (c .next-fail .ensures)
 
 same-length-2 : tie.Need-same-length-2 Inv-loop μ-loop
 same-length-2 c = same (c .before .loop .inv .wrote)
@@ -121,7 +125,6 @@ list-runs-spec =
     Inv-loop
     μ-loop
     loop-holds
-    add-loop
     shared-slice-read-pair
     add-pair
     shared-slice-read-pair-2
@@ -132,7 +135,6 @@ list-runs-spec =
     run-length-requires
     cast-store-run
     store-run-requires
-    moved-by-requires
     next-fail-requires
     add-at
     loop-less

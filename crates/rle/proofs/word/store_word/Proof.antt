@@ -27,23 +27,25 @@ least-requires : tie.Need-least-requires
 least-requires c κs = search needs
 
 store-run-requires : tie.Need-store-run-requires
-store-run-requires c κs = let t = c .before .before .before in
+store-run-requires c κs = let m = c .before in
+    let t = m .before .before in
     let s = t .before .before .before in
     let a = s .args in
     let e = word-ones (a .step) (a .first) (a .room) (a .w) (t .before .if1 .left) (t .if2 .taken) in
     let k : length (along (a .step) (a .first) (take (a .room) (valuesIn (a .w)))) ≡ min (a .room) (a .w % 16384) = ap length e ∙ length-progression _ _ _ in
-    omega (arith, s .pre, c .least .ensures, c .before .run-length .ensures, k)
+    omega (arith, s .pre, m .least .ensures, m .before .run-length .ensures, k)
 
 same-length : tie.Need-same-length
 same-length c = search needs
 
 returns-2 : tie.Need-returns-2
 returns-2 c = let r = c .before .before in
-    let t = r .before .before .before .before in
+    let m = r .before .before in
+    let t = m .before .before in
     let s = t .before .before .before in
     let a = s .args in
-    rw (word-ones (a .step) (a .first) (a .room) (a .w) (t .before .if1 .left) (t .if2 .taken), ← r .before .before .run-length .ensures, ← r .before .least .ensures)
-    (r .store-run .ensures)
+    rw (word-ones (a .step) (a .first) (a .room) (a .w) (t .before .if1 .left) (t .if2 .taken), ← m .before .run-length .ensures, ← m .least .ensures)
+    (r .store-run .ensures .0)
 
 least-requires-2 : tie.Need-least-requires-2
 least-requires-2 c κs = search needs
