@@ -220,16 +220,19 @@ pub extern "C" fn xr_time(r: u8, packet: &[u8], k: usize) -> Flat
     time(block::time_in(reading(r), packet, k))
 }
 
-// The numbers of block k, asked as type t (1 or 2): 1 to 6, 9, 10, 7, 11. It is numbers::numbers_in; each arm makes its own flat answer, since
-// one Answer for both would have a refusal copied through memory.
+// The numbers of block k, asked as type t (1 or 2): 1 to 6, 9, 10, 7, 11. It is numbers::numbers_in; each arm makes its own flat answer, so that
+// what the header refuses comes out at once, and no refusal is copied through memory.
 #[no_mangle]
 pub extern "C" fn xr_numbers(r: u8, packet: &[u8], k: usize, t: u8, out: &mut [u16]) -> Flat
     ensures { λ a. ⌜ FlatListed (numbersAsked (readingOf r) (now (packet .entry)) k t) (now (out .entry)) a (now (out .exit)) ⌝ }
 {
     let q = reading(r);
-    match xr::locate(q, packet, k) {
-        Located::At(at, n) => answer(numbers::numbers(q, t, &packet[at..at + n], out)),
-        Located::Missing(x) => refusal(x),
+    match xr::header(q, packet) {
+        Answer::Done(stop) => match xr::find(q, packet, stop, k) {
+            Located::At(at, n) => answer(numbers::numbers(q, t, &packet[at..at + n], out)),
+            Located::Missing(x) => refusal(x),
+        },
+        Answer::Refused(x) => refusal(x),
     }
 }
 

@@ -212,25 +212,32 @@ pub fn count(r: Reading, s: &[u8]) -> Answer
     }
 }
 
-// Where block k's view lies, or the first of 1 to 6 and 9 that applies. Port of: XrBlockIter::next.
+// Where block k's view lies in a packet whose header was accepted, or 6 or 9: for a caller that has asked the header itself, so that what the
+// header refuses comes out at once and nothing is judged twice. Port of: XrBlockIter::next.
+pub fn find(r: Reading, s: &[u8], stop: usize, k: usize) -> Located
+    requires { ⌜ headerOf r (now s) ≡ Answer.Done stop ⌝ }
+    ensures { λ a. ⌜ a ≡ locate r (now (s .entry)) k ⌝ }
+{
+    let w = walk(s, stop, k);
+    let n = w.count;
+    let place = w.place;
+    match n {
+        Answer::Done(n) => {
+            if k < n {
+                return at_place(r, s, place);
+            }
+            Located::Missing(Refusal::NoBlock(n))
+        }
+        Answer::Refused(x) => Located::Missing(x),
+    }
+}
+
+// Where block k's view lies, or the first of 1 to 6 and 9 that applies.
 pub fn locate(r: Reading, s: &[u8], k: usize) -> Located
     ensures { λ a. ⌜ a ≡ locate r (now (s .entry)) k ⌝ }
 {
     match header(r, s) {
-        Answer::Done(stop) => {
-            let w = walk(s, stop, k);
-            let n = w.count;
-            let place = w.place;
-            match n {
-                Answer::Done(n) => {
-                    if k < n {
-                        return at_place(r, s, place);
-                    }
-                    Located::Missing(Refusal::NoBlock(n))
-                }
-                Answer::Refused(x) => Located::Missing(x),
-            }
-        }
+        Answer::Done(stop) => find(r, s, stop, k),
         Answer::Refused(x) => Located::Missing(x),
     }
 }
