@@ -14,19 +14,32 @@ mod timing;
 
 use timing::Table;
 
+const USAGE: &str = "bench/run [GROUP ..]: times the named groups of rows, or all of them
+groups: packet numbers others longest refusals growth
+exit status: 0 every row is at or below its bar; 1 a row is above it; 2 bad usage; 101 an answer differs from the Rust's";
+
+const GROUPS: [(&str, fn(&mut Table)); 6] = [
+    ("packet", rows::packet),
+    ("numbers", rows::numbers),
+    ("others", rows::others),
+    ("longest", rows::longest),
+    ("refusals", rows::refusals),
+    ("growth", rows::growth),
+];
+
 fn main() {
+    let asked: Vec<String> = std::env::args().skip(1).collect();
+    if asked.iter().any(|a| a == "--help" || a == "-h") {
+        println!("{USAGE}");
+        return;
+    }
+    if let Some(other) = asked.iter().find(|a| !GROUPS.iter().any(|g| g.0 == a.as_str())) {
+        eprintln!("bench: no group of rows is called {other}\n{USAGE}");
+        std::process::exit(2);
+    }
     compare();
     let mut t = Table { above: Vec::new() };
-    let groups: [(&str, fn(&mut Table)); 6] = [
-        ("packet", rows::packet),
-        ("numbers", rows::numbers),
-        ("others", rows::others),
-        ("longest", rows::longest),
-        ("refusals", rows::refusals),
-        ("growth", rows::growth),
-    ];
-    let asked: Vec<String> = std::env::args().skip(1).collect();
-    for (name, rows) in groups {
+    for (name, rows) in GROUPS {
         if asked.is_empty() || asked.iter().any(|a| a == name) {
             rows(&mut t);
         }

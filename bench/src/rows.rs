@@ -27,6 +27,7 @@ pub fn packet(t: &mut Table) {
     let p = pair(|| go(ours::count(CRATE, bb(&s))), || go(theirs::parse(bb(&s)).is_ok()));
     t.row("walk of 10 blocks, against Xr::parse alone", p, BAR);
     t.row("count of 10 blocks, against parse and block_iter", walk(&s), BAR);
+    assert_eq!(ours::count(STANDARD, &s), ours::count(CRATE, &s));
     let p = pair(
         || go(ours::count(STANDARD, bb(&s))),
         || go(theirs::parse(bb(&s)).is_ok()),
@@ -41,6 +42,7 @@ pub fn packet(t: &mut Table) {
 }
 
 fn walk(s: &[u8]) -> Pair {
+    agree::count(s);
     pair(|| go(ours::count(CRATE, bb(s))), || go(theirs::count(bb(s))))
 }
 
@@ -51,8 +53,9 @@ fn listed(reading: u8, s: &[u8]) -> Pair {
     let n = room.list.len();
     let Room { mut out, mut list } = Room::new(n);
     if reading == STANDARD {
-        ours::numbers(STANDARD, s, 0, 1, &mut out);
-        assert_eq!(out[..], room.list[..n], "both readings list the same here");
+        let a = ours::numbers(STANDARD, s, 0, 1, &mut out);
+        assert_eq!((a.code, a.first as usize), (0, n));
+        assert_eq!(out[..], room.list[..], "both readings list the same here");
     }
     let vector = pair(
         || go(ours::numbers(reading, bb(s), 0, 1, bb(&mut out))),
@@ -71,10 +74,10 @@ fn listed(reading: u8, s: &[u8]) -> Pair {
 fn viewed(s: &[u8]) -> Pair {
     use rtcp_types::prelude::*;
     let mut room = Room::new(15 * s.len() + 70_000);
-    agree::numbers(s, 0, &mut room);
-    let Room { mut out, mut list } = Room::new(room.list.len());
     let view = &s[8..];
     let block = rtcp_types::XrBlock::parse(view).unwrap();
+    agree::view(view, &block, &mut room);
+    let Room { mut out, mut list } = Room::new(room.list.len());
     pair(
         || go(ours::numbers_view(CRATE, 1, bb(view), bb(&mut out))),
         || go(theirs::numbers_view(bb(&block), bb(&mut list))),
@@ -86,7 +89,7 @@ pub fn numbers(t: &mut Table) {
     let kinds = [
         ("mixed words", mixed(100), BAR),
         ("runs of 1 to 200", some_runs(100), RUNS),
-        ("runs of 1", runs(100, 1, 0), BAR),
+        ("runs of 1", runs(100, 1, 0), RUNS),
         ("runs of 8", runs(100, 8, 0), RUNS),
         ("runs of 8 and gaps of 8", runs(100, 8, 8), RUNS),
         ("runs of 100", runs(100, 100, 0), RUNS),
@@ -147,6 +150,7 @@ pub fn others(t: &mut Table) {
 
 fn words(n: usize) -> Pair {
     let s = loss(careful(mixed(n)));
+    agree::words(&s, 0, &mut Room::new(n + 2));
     let (mut out, mut list) = (vec![0; n + 2], Vec::with_capacity(n + 2));
     pair(
         || go(ours::words(CRATE, bb(&s), 0, 1, bb(&mut out))),
@@ -157,11 +161,11 @@ fn words(n: usize) -> Pair {
 fn pairs(n: usize, reading: u8) -> Pair {
     let times: Vec<u32> = (0..n as u32).map(|i| i.wrapping_mul(0x9E3779B9)).collect();
     let s = make::packet(&[make::receipt(7, 7, 0, &times)]);
-    agree::pairs(&s, 0);
+    agree::pairs(reading, &s, 0);
     let (mut a, mut b) = (vec![0; n], vec![0; n]);
     let (mut x, mut y) = (Vec::with_capacity(n), Vec::with_capacity(n));
     let mut both = Vec::with_capacity(n);
-    assert_eq!(ours::pairs(reading, &s, 0, &mut a, &mut b).first as usize, n);
+    assert_eq!(ours::pairs(reading, &s, 0, &mut a, &mut b).first as usize, n, "every pair is listed");
     let apart = pair(
         || go(ours::pairs(reading, bb(&s), 0, bb(&mut a), bb(&mut b))),
         || go(theirs::pairs(bb(&s), 0, bb(&mut x), bb(&mut y))),
@@ -173,16 +177,15 @@ fn pairs(n: usize, reading: u8) -> Pair {
     harder(apart, together)
 }
 
-/// The Rust takes DLRR blocks of 16, 48, .. bytes only, and reads to the packet's end: so one entry's block,
-/// and the rest of the entries in a block behind it for the crate, or all in one block for the standard.
+/// One block of n entries. The Rust takes DLRR blocks only of lengths that 16 divides, so n is made one more than a multiple of 4.
 fn entries(n: usize, reading: u8) -> Pair {
     let n = n / 4 * 4 + 1;
     let s = make::packet(&[make::dlrr(n)]);
-    agree::entries(&s, 0);
+    agree::entries(reading, &s, 0);
     let (mut a, mut b, mut c) = (vec![0; n], vec![0; n], vec![0; n]);
     let mut v = [(); 3].map(|_| Vec::with_capacity(n));
     let mut all = Vec::with_capacity(n);
-    assert_eq!(ours::entries(reading, &s, 0, &mut a, &mut b, &mut c).first as usize, n);
+    assert_eq!(ours::entries(reading, &s, 0, &mut a, &mut b, &mut c).first as usize, n, "every entry is listed");
     let [x, y, z] = &mut v;
     let apart = pair(
         || go(ours::entries(reading, bb(&s), 0, bb(&mut a), bb(&mut b), bb(&mut c))),
@@ -205,7 +208,7 @@ pub fn longest(t: &mut Table) {
         assert_eq!(s.len(), 262_144);
         s
     };
-    t.row("131,061 runs of 1", listed(CRATE, &one(0, 0, 0, runs(full, 1, 0))), BAR);
+    t.row("131,061 runs of 1", listed(CRATE, &one(0, 0, 0, runs(full, 1, 0))), RUNS);
     t.row("131,061 runs of 8", listed(CRATE, &one(0, 65535, 1, runs(full, 8, 0))), RUNS);
     t.row("131,061 vectors", listed(CRATE, &one(0, 65535, 1, vectors(full))), BAR);
     t.row("131,061 mixed words", listed(CRATE, &one(0, 65535, 1, mixed(full))), BAR);
