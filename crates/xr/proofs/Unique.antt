@@ -13,6 +13,9 @@ use Rattle.xr.proofs.header.Kinds as header-kinds
 use Rattle.xr.proofs.count as count
 use Rattle.xr.proofs.count.Reads as count-reads
 use Rattle.xr.proofs.count.Kinds as count-kinds
+use Rattle.xr.proofs.find as find
+use Rattle.xr.proofs.find.Reads as find-reads
+use Rattle.xr.proofs.find.Kinds as find-kinds
 use Rattle.xr.proofs.locate as locate
 use Rattle.xr.proofs.locate.Reads as locate-reads
 use Rattle.xr.proofs.locate.Kinds as locate-kinds
@@ -52,6 +55,11 @@ pub count-unique : (κs : Lfts 1) (a : ArgsD count.signature κs) (r₁ r₂ : R
     (s₁ s₂ : AtExit (endedOf 1 count-kinds.ps count-kinds.r) κs)
     → count-reads.Post κs a r₁ s₁ → count-reads.Post κs a r₂ s₂ → r₁ ≡ r₂
 count-unique κs a r₁ r₂ s₁ s₂ p q = p ∙ sym q
+
+pub find-unique : (κs : Lfts 1) (a : ArgsD find.signature κs) (r₁ r₂ : ResD find.signature κs)
+    (s₁ s₂ : AtExit (endedOf 1 find-kinds.ps find-kinds.r) κs)
+    → find-reads.Post κs a r₁ s₁ → find-reads.Post κs a r₂ s₂ → r₁ ≡ r₂
+find-unique κs a r₁ r₂ s₁ s₂ p q = p ∙ sym q
 
 pub locate-unique : (κs : Lfts 1) (a : ArgsD locate.signature κs) (r₁ r₂ : ResD locate.signature κs)
     (s₁ s₂ : AtExit (endedOf 1 locate-kinds.ps locate-kinds.r) κs)
