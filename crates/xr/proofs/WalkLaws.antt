@@ -1,17 +1,17 @@
 -- The laws of the walk: its steps as a loop goes, and where the blocks that it counts lie.
 use Prim.Native.Nat.{ℕ, zero, suc, _+_, _*_, _-_, _%_, _≤_, _<_}
 use mathlib.Core.Path.{_≡_, refl, sym, ap, _∙_}
-use mathlib.Core.Bool.{Bool, true, false, cond}
+use mathlib.Core.Bool.{Bool, true, false, cond, _&&_}
 use mathlib.Core.List.{List, []}
 use native.Mathlib.Nat.{add-comm, zero-add}
 use native.Mathlib.Numerals.{add-one}
 use native.Mathlib.Omega.{arith}
 use lib.ListN.{length, take, drop}
 use lib.Dec.{ltb, leb, eqb}
-use borrow.Author.Tests.{lt-ltb, le-ltb, le-leb, lt-leb, eq-eqb, ne-eqb, ltb-true, ltb-false, leb-false, eqb-true, eqb-false}
-use Rattle.base.proofs.Tests.{by-test, either}
+use borrow.Author.Tests.{lt-ltb, le-ltb, le-leb, lt-leb, eq-eqb, ne-eqb, ltb-true, ltb-false, leb-true, leb-false, eqb-true, eqb-false}
+use Rattle.base.proofs.Tests.{by-test, either, and-true}
 use Rattle.refusals.specs.declared.Refusal.{Refusal}
-use Rattle.refusals.specs.declared.Refusal.the-variants.{BlockTooLong, NoBlock}
+use Rattle.refusals.specs.declared.Refusal.the-variants.{WrongLength, BlockTooLong, NoBlock}
 use Rattle.refusals.specs.declared.Answer.{Answer}
 use Rattle.refusals.specs.declared.Answer.the-variants.{Done, Refused}
 use Rattle.wire.specs.declared.Reading.{Reading}
@@ -19,7 +19,7 @@ use Rattle.wire.specs.declared.Reading.the-variants.{Standard, Crate}
 use Rattle.wire.specs.declared.Located.{Located}
 use Rattle.wire.specs.declared.Located.the-variants.{At, Missing}
 use Rattle.wire.specs.Packet.{headerOf, lengthAt, placeOf, walkFrom, walkTo, countOf, sizeAt, pickBlock, locate}
-use Rattle.xr.specs.Parts.{partAt, bytesAt}
+use Rattle.xr.specs.Parts.{isEnd, found, partAt, bytesAt}
 use Rattle.xr.proofs.HeaderLaws.{Fine, header-fine}
 
 -- one turn of the walk at the place of block n, with fuel left
@@ -68,24 +68,49 @@ pub place-zero : (s : List ℕ) → placeOf s 0 ≡ 8
 unfolding placeOf
 place-zero s = refl
 
--- a block that is located lies within the packet
+-- where a block lies after an accepted and after a refused header
 module _ (r : Reading) (s : List ℕ) (k : ℕ) where
   pub located-done : (stop n : ℕ) → headerOf r s ≡ Done stop → walkFrom s stop (length s) 8 0 ≡ Done n → k < n
       → At (placeOf s k) (sizeAt r s (placeOf s k)) ≡ locate r s k
   unfolding locate countOf
   located-done stop n h w l = rw (h, w, lt-ltb _ _ l)
 
-  pub located-none : (stop n : ℕ) → headerOf r s ≡ Done stop → walkFrom s stop (length s) 8 0 ≡ Done n → n ≤ k → Missing (NoBlock n) ≡ locate r s k
-  unfolding locate countOf
-  located-none stop n h w l = rw (h, w, le-ltb _ _ l)
-
-  pub located-cut : (stop : ℕ) (x : Refusal) → headerOf r s ≡ Done stop → walkFrom s stop (length s) 8 0 ≡ Refused x → Missing x ≡ locate r s k
-  unfolding locate countOf
-  located-cut stop x h w = rw (h, w)
-
   pub located-refused : (x : Refusal) → headerOf r s ≡ Refused x → Missing x ≡ locate r s k
   unfolding locate countOf
   located-refused x h = rw h
+
+-- where blocks can end
+pub end-fine : (s : List ℕ) (stop : ℕ) → isEnd s stop ≡ true → Fine s stop
+end-fine s stop e =
+    let a = and-true (leb stop (length s)) (eqb (stop % 4) 0 && leb 8 stop) e in
+    let b = and-true (eqb (stop % 4) 0) (leb 8 stop) (a .1) in
+    record { within = leb-true _ _ (a .0); whole = eqb-true _ _ (b .0); least = leb-true _ _ (b .1) }
+
+fine-end : (s : List ℕ) (stop : ℕ) → Fine s stop → isEnd s stop ≡ true
+fine-end s stop f = rw (le-leb _ _ (f .within), eq-eqb _ _ (f .whole), le-leb _ _ (f .least))
+
+module _ (r : Reading) (s : List ℕ) (stop k : ℕ) where
+  -- up to the end that the header gives
+  pub found-located : headerOf r s ≡ Done stop → found r s stop k ≡ locate r s k
+  unfolding locate countOf found
+  found-located h = rw (h, fine-end s stop (header-fine r s stop h))
+
+  pub found-no-end : isEnd s stop ≡ false → Missing (WrongLength stop (length s)) ≡ found r s stop k
+  unfolding found
+  found-no-end e = rw e
+
+  module _ (e : isEnd s stop ≡ true) where
+    pub found-done : (n : ℕ) → walkFrom s stop (length s) 8 0 ≡ Done n → k < n → At (placeOf s k) (sizeAt r s (placeOf s k)) ≡ found r s stop k
+    unfolding found
+    found-done n w l = rw (e, w, lt-ltb _ _ l)
+
+    pub found-none : (n : ℕ) → walkFrom s stop (length s) 8 0 ≡ Done n → n ≤ k → Missing (NoBlock n) ≡ found r s stop k
+    unfolding found
+    found-none n w l = rw (e, w, le-ltb _ _ l)
+
+    pub found-cut : (x : Refusal) → walkFrom s stop (length s) 8 0 ≡ Refused x → Missing x ≡ found r s stop k
+    unfolding found
+    found-cut x w = rw (e, w)
 
 -- an accepted packet: its header is accepted, and its walk counts the blocks
 pub record Counted (r : Reading) (s : List ℕ) (n : ℕ) : Type 0 where

@@ -5,7 +5,7 @@ ghost use Prim.Native.Nat.{_+_, _*_, _-_, _%_, _≤_, _<_};
 ghost use lib.ListN.{length, getD};
 ghost use Rattle.wire.specs.Packet.{leastOf, isBadPadding, isPadded, paddingOf, headerOf, lengthAt, placeOf, walkFrom, countOf, sizeAt, locate};
 ghost use Rattle.wire.specs.Block.{headerData};
-ghost use Rattle.xr.specs.Parts.{Walking, Reach, Walk, parsedOf, partAt, bytesAt};
+ghost use Rattle.xr.specs.Parts.{Walking, Reach, Walk, parsedOf, isEnd, found, partAt, bytesAt};
 use refusals::Answer;
 use refusals::Refusal;
 use wire::Located;
@@ -212,12 +212,27 @@ pub fn count(r: Reading, s: &[u8]) -> Answer
     }
 }
 
-// Where block k's view lies in a packet whose header was accepted, or 6 or 9: for a caller that has asked the header itself, so that what the
-// header refuses comes out at once and nothing is judged twice. Port of: XrBlockIter::next.
-pub fn find(r: Reading, s: &[u8], stop: usize, k: usize) -> Located
-    requires { ⌜ headerOf r (now s) ≡ Answer.Done stop ⌝ }
-    ensures { λ a. ⌜ a ≡ locate r (now (s .entry)) k ⌝ }
+// Whether blocks can end here.
+fn is_end(s: &[u8], stop: usize) -> bool
+    ensures { λ a. ⌜ a ≡ isEnd (now (s .entry)) stop ⌝ }
 {
+    if s.len() < stop {
+        return false;
+    }
+    if stop % 4 != 0 {
+        return false;
+    }
+    8 <= stop
+}
+
+// Where block k's view lies among the blocks up to an end, or 6 or 9: for a caller that has asked the header where they end, so that what the
+// header refuses comes out at once and is not judged twice. 4 where no block can end there. Port of: XrBlockIter::next.
+pub fn find(r: Reading, s: &[u8], stop: usize, k: usize) -> Located
+    ensures { λ a. ⌜ a ≡ found r (now (s .entry)) stop k ⌝ }
+{
+    if !is_end(s, stop) {
+        return Located::Missing(Refusal::WrongLength(stop, s.len()));
+    }
     let w = walk(s, stop, k);
     let n = w.count;
     let place = w.place;

@@ -1,10 +1,11 @@
 -- `xport::xr_numbers` meets its contract: the header refuses, no such block is found, or the block's numbers are listed. Assumes nothing.
 use Rattle.xport.proofs.FlatLaws.{flat-listed, flat-turned-away}
 use Rattle.numbers.proofs.AskedLaws.{numbers-asked, numbers-missing}
-use Rattle.xr.proofs.WalkLaws.{located-within, located-refused}
+use Rattle.xr.proofs.WalkLaws.{located-within, located-refused, found-located}
+use Rattle.wire.specs.Packet.{locate}
 use Rattle.readings.specs.Packets.{numbersAsked}
 use native.Mathlib.Omega.{arith}
-use mathlib.Core.Path.{sym, ap, _∙_}
+use mathlib.Core.Path.{_≡_, sym, ap, _∙_}
 use borrow.Author.Needs.{needs}
 use Rattle.xport.proofs.xr_numbers.Statement.{statement}
 use Rattle.xport.proofs.xr_numbers.Tie as tie
@@ -16,6 +17,11 @@ judged f = f .before .before .before .before
 abbrev entry : tie.After-header → tie.Start
 entry h = h .before .before .before .before
 
+-- it was looked for up to the end that the header gives
+looked : (f : tie.After-find) → let h = judged f in let a = entry h .args in f .find .result ≡ locate (h .before .reading .result) (a .packet .now) (a .k)
+looked f = let h = judged f in let a = entry h .args in let k = f .before .before in
+    f .find .ensures ∙ found-located (h .before .reading .result) (a .packet .now) (k .stop .given .0 .0) (a .k) (sym (h .header .ensures) ∙ k .stop .given .1)
+
 reading-requires : tie.Need-reading-requires
 reading-requires c κs = search needs
 
@@ -26,7 +32,7 @@ enum-known-stop : tie.Need-enum-known-stop
 enum-known-stop c = search needs
 
 find-requires : tie.Need-find-requires
-find-requires c κs = let k = c .before in sym (k .before .before .header .ensures) ∙ k .stop .given .1
+find-requires c κs = search needs
 
 enum-known-at : tie.Need-enum-known-at
 enum-known-at c = search needs
@@ -36,7 +42,7 @@ add-numbers c = let p = c .before in
     let f = p .before .before in
     let h = judged f in
     let a = entry h .args in
-    omega (arith, located-within (h .before .reading .result) (a .packet .now) (a .k) (p .at .given .0 .0) (p .at .given .0 .1 .0) (sym (f .find .ensures) ∙ p .at .given .1) .end)
+    omega (arith, located-within (h .before .reading .result) (a .packet .now) (a .k) (p .at .given .0 .0) (p .at .given .0 .1 .0) (sym (looked f) ∙ p .at .given .1) .end)
 
 sub-numbers : tie.Need-sub-numbers
 sub-numbers c = search needs
@@ -49,7 +55,7 @@ part-numbers-end c = let p = c .before in
     let f = p .before .before in
     let h = judged f in
     let a = entry h .args in
-    omega (arith, located-within (h .before .reading .result) (a .packet .now) (a .k) (p .at .given .0 .0) (p .at .given .0 .1 .0) (sym (f .find .ensures) ∙ p .at .given .1) .end)
+    omega (arith, located-within (h .before .reading .result) (a .packet .now) (a .k) (p .at .given .0 .0) (p .at .given .0 .1 .0) (sym (looked f) ∙ p .at .given .1) .end)
 
 numbers-requires : tie.Need-numbers-requires
 numbers-requires c κs = search needs
@@ -79,7 +85,7 @@ returns c = let n = c .before .before .before in
     let h = judged f in
     let a = entry h .args in
     flat-listed
-    (sym (numbers-asked (h .before .reading .result) (a .packet .now) (a .k) (a .t) (p .at .given .0 .0) (p .at .given .0 .1 .0) (sym (f .find .ensures) ∙ p .at .given .1)) ∙ ap (λ r. numbersAsked r (a .packet .now) (a .k) (a .t)) (h .before .reading .ensures))
+    (sym (numbers-asked (h .before .reading .result) (a .packet .now) (a .k) (a .t) (p .at .given .0 .0) (p .at .given .0 .1 .0) (sym (looked f) ∙ p .at .given .1)) ∙ ap (λ r. numbersAsked r (a .packet .now) (a .k) (a .t)) (h .before .reading .ensures))
     (n .numbers .ensures)
     (c .answer .ensures)
 
@@ -88,7 +94,7 @@ returns-2 c = let p = c .before .before in
     let f = p .before .before in
     let h = judged f in
     let a = entry h .args in
-    flat-turned-away (p .x .given .0 .0) (ap (λ r. numbersAsked r (a .packet .now) (a .k) (a .t)) (h .before .reading .ensures)) (numbers-missing (h .before .reading .result) (a .packet .now) (a .k) (a .t) (p .x .given .0 .0) (sym (f .find .ensures) ∙ p .x .given .1)) (c .refusal .ensures)
+    flat-turned-away (p .x .given .0 .0) (ap (λ r. numbersAsked r (a .packet .now) (a .k) (a .t)) (h .before .reading .ensures)) (numbers-missing (h .before .reading .result) (a .packet .now) (a .k) (a .t) (p .x .given .0 .0) (sym (looked f) ∙ p .x .given .1)) (c .refusal .ensures)
 
 returns-3 : tie.Need-returns-3
 returns-3 c = let p = c .before .before in

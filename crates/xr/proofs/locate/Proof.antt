@@ -1,6 +1,6 @@
 -- `xr::locate` meets its contract: the header refuses, or the block is looked for.
 use mathlib.Core.Path.{sym, _∙_}
-use Rattle.xr.proofs.WalkLaws.{located-refused}
+use Rattle.xr.proofs.WalkLaws.{found-located, located-refused}
 use borrow.Author.Needs.{needs}
 use Rattle.xr.proofs.locate.Statement.{statement}
 use Rattle.xr.proofs.locate.Tie as tie
@@ -12,13 +12,16 @@ enum-known-stop : tie.Need-enum-known-stop
 enum-known-stop c = search needs
 
 find-requires : tie.Need-find-requires
-find-requires c κs = let k = c .before in sym (k .before .before .header .ensures) ∙ k .stop .given .1
+find-requires c κs = search needs
 
 enum-known-x : tie.Need-enum-known-x
 enum-known-x c = search needs
 
 returns : tie.Need-returns
-returns c = search needs
+returns c = let k = c .before .before in
+    let h = k .before .before in
+    let a = h .before .before .args in
+    c .find .ensures ∙ found-located (a .r) (a .s .now) (k .stop .given .0 .0) (a .k) (sym (h .header .ensures) ∙ k .stop .given .1)
 
 returns-2 : tie.Need-returns-2
 returns-2 c = let k = c .before in
