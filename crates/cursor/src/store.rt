@@ -1,10 +1,10 @@
-// The numbers of some places of one word, stored. Private to the crate; rle's storing functions, from any place of the word on.
+// The numbers of some places of one word, stored, from any place of the word on. Private to the crate.
 ghost use mathlib.Core.Path.{_≡_};
 ghost use Prim.Native.Nat.{_+_, _-_, _≤_, _<_};
 ghost use lib.ListN.{length};
 ghost use Rattle.standard.specs.Chunks.{valueOf};
 ghost use Rattle.base.proofs.Stores.{Wrote};
-ghost use Rattle.rle.specs.Along.{progression, along};
+ghost use Rattle.rle.specs.Along.{along};
 ghost use Rattle.cursors.specs.Cursor.{stepsIn};
 ghost use Rattle.cursor.specs.Steps.{placesIn};
 
@@ -14,22 +14,6 @@ fn bit_at(w: u16, q: usize) -> u16
     ensures { λ r. ⌜ r ≡ valueOf w q ⌝ }
 {
     (w >> (14 - q)) & 1
-}
-
-// Stores a run's numbers, one step apart.
-fn store_run(out: &mut [u16], at: usize, count: usize, first: u16, step: u16) -> usize
-    requires { ⌜ at + count ≤ length (now out) ⌝ }
-    ensures { λ r. ⌜ Wrote (now (out .entry)) at (progression step first count) (now (out .exit)) r ⌝ }
-{
-    let end = at + count;
-    let mut n = at;
-    let mut x = first;
-    while n < end {
-        out[n] = x;
-        x = std::num::wrapping_add_u16(x, step);
-        n += 1;
-    }
-    n
 }
 
 // Stores the numbers of a vector's ones, from a place up to another.
@@ -77,7 +61,7 @@ pub(crate) fn store_places(
         return at;
     }
     if w < 0x8000 {
-        return store_run(out, at, room, first, step);
+        return rle::put_run(out, at, room, first, step);
     }
     store_vector(out, at, w, place, place + room, first, step)
 }

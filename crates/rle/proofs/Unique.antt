@@ -23,6 +23,9 @@ use Rattle.rle.proofs.count_standard.Kinds as count-standard-kinds
 use Rattle.rle.proofs.count_crate as count-crate
 use Rattle.rle.proofs.count_crate.Reads as count-crate-reads
 use Rattle.rle.proofs.count_crate.Kinds as count-crate-kinds
+use Rattle.rle.proofs.put_run as put-run
+use Rattle.rle.proofs.put_run.Reads as put-run-reads
+use Rattle.rle.proofs.put_run.Kinds as put-run-kinds
 use Rattle.rle.proofs.count_words as count-words
 use Rattle.rle.proofs.count_words.Reads as count-words-reads
 use Rattle.rle.proofs.count_words.Kinds as count-words-kinds
@@ -65,6 +68,11 @@ pub count-crate-unique : (κs : Lfts 1) (a : ArgsD count-crate.signature κs) (r
     (s₁ s₂ : AtExit (endedOf 1 count-crate-kinds.ps count-crate-kinds.r) κs)
     → count-crate-reads.Post κs a r₁ s₁ → count-crate-reads.Post κs a r₂ s₂ → r₁ ≡ r₂
 count-crate-unique κs a r₁ r₂ s₁ s₂ p q = p ∙ sym q
+
+pub put-run-unique : (κs : Lfts 1) (a : ArgsD put-run.signature κs) (r₁ r₂ : ResD put-run.signature κs)
+    (s₁ s₂ : AtExit (endedOf 1 put-run-kinds.ps put-run-kinds.r) κs)
+    → put-run-reads.Post κs a r₁ s₁ → put-run-reads.Post κs a r₂ s₂ → (r₁ ≡ r₂) × (s₁ .0 .now ≡ s₂ .0 .now)
+put-run-unique κs a r₁ r₂ s₁ s₂ p q = (p .past ∙ sym (q .past), p .stored ∙ sym (q .stored))
 
 pub count-words-unique : (κs : Lfts 1) (a : ArgsD count-words.signature κs) (r₁ r₂ : ResD count-words.signature κs)
     (s₁ s₂ : AtExit (endedOf 1 count-words-kinds.ps count-words-kinds.r) κs)

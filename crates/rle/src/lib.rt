@@ -4,12 +4,15 @@ mod list;
 mod word;
 
 ghost use mathlib.Core.Path.{_≡_};
+ghost use Prim.Native.Nat.{_-_, min};
 ghost use lib.ListN.{length, take};
 ghost use Rattle.wire.specs.Bytes.{words16};
 ghost use Rattle.refusals.specs.Answers.{shown, Listed};
 ghost use Rattle.standard.specs.Range.{rangeOf, numberOf};
 ghost use Rattle.standard.specs.Standard.{numbersOf};
 ghost use Rattle.old_crate.specs.Crate.{crateNumbersFrom};
+ghost use Rattle.base.proofs.Stores.{Wrote};
+ghost use Rattle.rle.specs.Along.{progression};
 ghost use Rattle.rle.specs.Inside.{insideCount};
 ghost use Rattle.rle.specs.Failing.{againOf, firstFail, longest};
 use refusals::Answer;
@@ -148,6 +151,18 @@ pub fn fill_crate(bytes: &[u8], end: u16, thinning: u8, begin: u16, out: &mut [u
         }
     }
     Answer::Done(list::list_crate(part, end, thinning, begin, out))
+}
+
+// Stores numbers one step apart from an index on, as many as asked and as there is room for; answers the index past them.
+pub fn put_run(out: &mut [u16], at: usize, count: usize, first: u16, step: u16) -> usize
+    ensures { λ r. ⌜ Wrote (now (out .entry)) at (progression step first (min count (length (now (out .entry)) - at))) (now (out .exit)) r ⌝ }
+{
+    if out.len() <= at {
+        return at;
+    }
+    let room = word::least(count, out.len() - at);
+    let r = word::store_run(out, at, room, first, step);
+    r.n
 }
 
 // How many whole words there are.

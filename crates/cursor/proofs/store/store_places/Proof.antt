@@ -1,3 +1,4 @@
+-- `cursor::store::store_places` meets its contract: by the word's kind. Assumes nothing.
 use Rattle.cursor.proofs.PlacesLaws.{places-zeros, places-ones}
 use Rattle.cursor.proofs.LegalLaws.{steps-le, steps-some}
 use Rattle.cursor.specs.Steps.{placesIn}
@@ -7,49 +8,37 @@ use Rattle.rle.specs.Along.{along}
 use Rattle.chunk.proofs.ChunkLaws.{covers-vector}
 use Rattle.standard.specs.Chunks.{coversOf}
 use lib.ListN.{length}
-use Prim.Native.Nat.{_+_, _-_}
+use Prim.Native.Nat.{_+_, _-_, min}
 use mathlib.Core.Path.{_≡_, refl, sym, ap, _∙_}
 use native.Mathlib.Nat.{add-zero}
 use native.Mathlib.Omega.{arith}
 use borrow.Author.Needs.{needs}
 use Rattle.cursor.proofs.store.store_places.Statement.{statement}
 use Rattle.cursor.proofs.store.store_places.Tie as tie
-use Rattle.cursor.proofs.store.store_places.Reads as reads
-use Rattle.cursor.proofs.store.store_places.Lts as lts
-use Rattle.cursor.proofs.store.store_run.Reads as store-run-reads
-use Rattle.cursor.proofs.store.store_vector.Reads as store-vector-reads
 
--- src/store.rt:77:9
 returns : tie.Need-returns
 returns c = let a = c .before .before .args in
     rw (places-zeros (a .step) (a .first) (a .w) (a .place) (a .room) (c .if1 .taken)) (record { stored = refl; past = sym (add-zero (a .at)) })
 
--- src/store.rt:80:9
-store-run-requires : tie.Need-store-run-requires
-store-run-requires c κs = let t = c .before in
-    let s = t .before .before .before in
-    let a = s .args in
-    let e = places-ones (a .step) (a .first) (a .w) (a .place) (a .room) (t .before .if1 .left) (t .if2 .taken) (s .pre .0) in
-    let k : length (along (a .step) (a .first) (placesIn (a .w) (a .place) (a .room))) ≡ a .room = ap length e ∙ length-progression _ _ _ in
-    omega (arith, s .pre .1, k)
+put-run-requires : tie.Need-put-run-requires
+put-run-requires c κs = search needs
 
--- src/store.rt:80:9
 same-length : tie.Need-same-length
 same-length c = search needs
 
--- src/store.rt:80:9
 returns-2 : tie.Need-returns-2
 returns-2 c = let r = c .before .before in
     let t = r .before .before in
     let s = t .before .before .before in
     let a = s .args in
-    rw (places-ones (a .step) (a .first) (a .w) (a .place) (a .room) (t .before .if1 .left) (t .if2 .taken) (s .pre .0)) (r .store-run .ensures)
+    let e = places-ones (a .step) (a .first) (a .w) (a .place) (a .room) (t .before .if1 .left) (t .if2 .taken) (s .pre .0) in
+    let k : length (along (a .step) (a .first) (placesIn (a .w) (a .place) (a .room))) ≡ a .room = ap length e ∙ length-progression _ _ _ in
+    let m : min (a .room) (length (a .out .now) - a .at) ≡ a .room = omega (arith, s .pre .1, k) in
+    rw (e, ← m) (r .put-run .ensures)
 
--- src/store.rt:82:37
 add-store-vector : tie.Need-add-store-vector
 add-store-vector c = let s = c .before .before .before .before in omega (arith, s .pre .0, steps-le (s .args .w))
 
--- src/store.rt:82:5
 store-vector-requires : tie.Need-store-vector-requires
 store-vector-requires c κs = let t = c .before in
     let s = t .before .before .before in
@@ -59,11 +48,9 @@ store-vector-requires c κs = let t = c .before in
     let e : a .place + a .room - a .place ≡ a .room = omega arith in
     (t .if2 .left, omega (arith, s .pre .0, v, n), omega arith, rw e (s .pre .1))
 
--- src/store.rt:63:1
 same-length-2 : tie.Need-same-length-2
 same-length-2 c = search needs
 
--- src/store.rt:63:1
 returns-3 : tie.Need-returns-3
 returns-3 c = let r = c .before .before in
     let a = r .before .before .before .before .before .args in
@@ -75,7 +62,7 @@ store-places-spec =
     tie.close
     (tie.spec
     returns
-    store-run-requires
+    put-run-requires
     same-length
     returns-2
     add-store-vector
