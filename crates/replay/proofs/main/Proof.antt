@@ -20,18 +20,6 @@ slice-aggregate-replay-2 c = zeros 65536
 slice-aggregate-replay-3 : tie.Need-slice-aggregate-replay-3
 slice-aggregate-replay-3 c = zeros 65536
 
-slice-aggregate-replay-4 : tie.Need-slice-aggregate-replay-4
-slice-aggregate-replay-4 c = zeros 131072
-
-slice-aggregate-replay-5 : tie.Need-slice-aggregate-replay-5
-slice-aggregate-replay-5 c = zeros 16384
-
-slice-aggregate-replay-6 : tie.Need-slice-aggregate-replay-6
-slice-aggregate-replay-6 c = zeros 16384
-
-slice-aggregate-replay-7 : tie.Need-slice-aggregate-replay-7
-slice-aggregate-replay-7 c = zeros 16384
-
 replay-requires : tie.Need-replay-requires
 replay-requires c κs = search needs
 
@@ -45,9 +33,5 @@ main-spec =
     slice-aggregate-replay
     slice-aggregate-replay-2
     slice-aggregate-replay-3
-    slice-aggregate-replay-4
-    slice-aggregate-replay-5
-    slice-aggregate-replay-6
-    slice-aggregate-replay-7
     replay-requires
     returns)

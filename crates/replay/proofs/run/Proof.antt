@@ -10,10 +10,10 @@ use Rattle.replay.proofs.less.Reads as less-reads
 use Rattle.replay.proofs.turn.Reads as turn-reads
 
 abbrev Inv-loop : tie.InvT-loop
-Inv-loop list packet₀ buf₀ ns₀ a₀ b₀ c₀ r₀ left₀ packet buf ns a b c r left = (length packet ≡ length packet₀) × (length buf ≡ length buf₀) × (length ns ≡ length ns₀) × (length a ≡ length a₀) × (length b ≡ length b₀) × (length c ≡ length c₀)
+Inv-loop list packet₀ buf₀ r₀ left₀ packet buf r left = (length packet ≡ length packet₀) × (length buf ≡ length buf₀)
 
 abbrev μ-loop : tie.MeasureT-loop
-μ-loop list packet₀ buf₀ ns₀ a₀ b₀ c₀ r₀ left₀ packet buf ns a b c r left = left
+μ-loop list packet₀ buf₀ r₀ left₀ packet buf r left = left
 
 -- src/main.rt:171:5
 loop-holds : tie.Need-loop-holds Inv-loop μ-loop
@@ -44,22 +44,6 @@ same-length-2 : tie.Need-same-length-2 Inv-loop μ-loop
 same-length-2 c = search needs
 
 -- src/main.rt:154:1
-same-length-3 : tie.Need-same-length-3 Inv-loop μ-loop
-same-length-3 c = search needs
-
--- src/main.rt:154:1
-same-length-4 : tie.Need-same-length-4 Inv-loop μ-loop
-same-length-4 c = search needs
-
--- src/main.rt:154:1
-same-length-5 : tie.Need-same-length-5 Inv-loop μ-loop
-same-length-5 c = search needs
-
--- src/main.rt:154:1
-same-length-6 : tie.Need-same-length-6 Inv-loop μ-loop
-same-length-6 c = search needs
-
--- src/main.rt:154:1
 returns : tie.Need-returns Inv-loop μ-loop
 returns c = search needs
 
@@ -76,8 +60,4 @@ run-spec =
     loop-again
     same-length
     same-length-2
-    same-length-3
-    same-length-4
-    same-length-5
-    same-length-6
     returns)

@@ -11,10 +11,10 @@ use Rattle.replay.proofs.answer.either.Reads as either-reads
 use Rattle.replay.proofs.answer.one_block.Reads as one-block-reads
 
 abbrev Inv-loop : tie.InvT-loop
-Inv-loop packet count buf₀ at ns₀ a₀ b₀ c₀ k₀ place₀ n₀ panics₀ buf ns a b c k place n panics = (k ≤ count) × (length buf ≡ length buf₀) × (length ns ≡ length ns₀) × (length a ≡ length a₀) × (length b ≡ length b₀) × (length c ≡ length c₀)
+Inv-loop packet count buf₀ at k₀ place₀ n₀ panics₀ buf k place n panics = (k ≤ count) × (length buf ≡ length buf₀)
 
 abbrev μ-loop : tie.MeasureT-loop
-μ-loop packet count buf₀ at ns₀ a₀ b₀ c₀ k₀ place₀ n₀ panics₀ buf ns a b c k place n panics = count - k
+μ-loop packet count buf₀ at k₀ place₀ n₀ panics₀ buf k place n panics = count - k
 
 -- src/answer.rt:327:5
 loop-holds : tie.Need-loop-holds Inv-loop μ-loop
@@ -49,22 +49,6 @@ same-length : tie.Need-same-length Inv-loop μ-loop
 same-length c = search needs
 
 -- src/answer.rt:313:1
-same-length-2 : tie.Need-same-length-2 Inv-loop μ-loop
-same-length-2 c = search needs
-
--- src/answer.rt:313:1
-same-length-3 : tie.Need-same-length-3 Inv-loop μ-loop
-same-length-3 c = search needs
-
--- src/answer.rt:313:1
-same-length-4 : tie.Need-same-length-4 Inv-loop μ-loop
-same-length-4 c = search needs
-
--- src/answer.rt:313:1
-same-length-5 : tie.Need-same-length-5 Inv-loop μ-loop
-same-length-5 c = search needs
-
--- src/answer.rt:313:1
 returns : tie.Need-returns Inv-loop μ-loop
 returns c = search needs
 
@@ -82,8 +66,4 @@ blocks-spec =
     loop-less
     loop-again
     same-length
-    same-length-2
-    same-length-3
-    same-length-4
-    same-length-5
     returns)
