@@ -7,22 +7,22 @@ use native.Mathlib.Omega.{arith}
 use lib.ListN.{length, take, drop}
 use lib.Dec.{ltb, leb, eqb}
 use borrow.Author.Tests.{le-leb, lt-leb, eq-eqb, ne-eqb}
-use Rattle.refusals.specs.declared.Refusal.{Refusal}
-use Rattle.refusals.specs.declared.Refusal.the-variants.{OtherType, NoFields}
-use Rattle.refusals.specs.declared.Checked.{Checked}
-use Rattle.refusals.specs.declared.Checked.the-variants.{Fine, Unfit}
-use Rattle.wire.specs.declared.Reading.{Reading}
-use Rattle.wire.specs.declared.Reading.the-variants.{Standard, Crate}
-use Rattle.wire.specs.declared.Fields.{Fields}
-use Rattle.wire.specs.declared.FieldsOr.{FieldsOr}
-use Rattle.wire.specs.declared.FieldsOr.the-variants.{Shown, NoneOf}
-use Rattle.wire.specs.declared.TimeOr.{TimeOr}
-use Rattle.wire.specs.declared.TimeOr.the-variants.{Time, NoTime}
-use Rattle.wire.specs.declared.Located.{Located}
-use Rattle.wire.specs.declared.Located.the-variants.{At, Missing}
-use Rattle.wire.specs.Packet.{locate, part}
-use Rattle.wire.specs.Block.{typeOf, blockLength, rule, nextFit, standardRule, crateRule, fitness, checkOf, isCut, fieldsAt, fieldsOf, timeAt, timeOf, clockType, echoType, receiptType}
-use Rattle.readings.specs.Packets.{fieldsAsked, timeAsked}
+use Rattle.def_refusals.specs.declared.Refusal.{Refusal}
+use Rattle.def_refusals.specs.declared.Refusal.the-variants.{OtherType, NoFields}
+use Rattle.def_refusals.specs.declared.Checked.{Checked}
+use Rattle.def_refusals.specs.declared.Checked.the-variants.{Fine, Unfit}
+use Rattle.def_wire.specs.declared.Reading.{Reading}
+use Rattle.def_wire.specs.declared.Reading.the-variants.{Standard, Crate}
+use Rattle.def_wire.specs.declared.Fields.{Fields}
+use Rattle.def_wire.specs.declared.FieldsOr.{FieldsOr}
+use Rattle.def_wire.specs.declared.FieldsOr.the-variants.{Shown, NoneOf}
+use Rattle.def_wire.specs.declared.TimeOr.{TimeOr}
+use Rattle.def_wire.specs.declared.TimeOr.the-variants.{Time, NoTime}
+use Rattle.def_wire.specs.declared.Located.{Located}
+use Rattle.def_wire.specs.declared.Located.the-variants.{At, Missing}
+use Rattle.def_wire.specs.Packet.{locate, part}
+use Rattle.def_wire.specs.Block.{typeOf, blockLength, rule, nextFit, standardRule, crateRule, fitness, checkOf, isCut, fieldsAt, fieldsOf, timeAt, timeOf, clockType, echoType, receiptType}
+use Rattle.def_questions.specs.Packets.{fieldsAsked, timeAsked}
 
 module _ (t l : ℕ) where
   pub standard-clock : t ≡ clockType → rule (eqb l 12) 12 l ≡ standardRule t l

@@ -3,20 +3,20 @@
 ghost use mathlib.Core.Path.{_≡_};
 ghost use Prim.Native.Nat.{_+_, _*_, _-_, _%_, _^_, _≤_, _<_};
 ghost use lib.ListN.{length};
-ghost use Rattle.wire.specs.Block.{blockLength, standardRule, crateRule, fitness, checkOf, fieldsAt, fieldsOf, timeAt, timeOf};
-ghost use Rattle.readings.specs.Packets.{fieldsAsked, timeAsked};
-use refusals::Checked;
-use refusals::Refusal;
-use wire::Fields;
-use wire::FieldsOr;
-use wire::Located;
-use wire::LongTime;
-use wire::Reading;
-use wire::TimeOr;
+ghost use Rattle.def_wire.specs.Block.{blockLength, standardRule, crateRule, fitness, checkOf, fieldsAt, fieldsOf, timeAt, timeOf};
+ghost use Rattle.def_questions.specs.Packets.{fieldsAsked, timeAsked};
+use def_refusals::Checked;
+use def_refusals::Refusal;
+use def_wire::Fields;
+use def_wire::FieldsOr;
+use def_wire::Located;
+use def_wire::LongTime;
+use def_wire::Reading;
+use def_wire::TimeOr;
 
 // A length rule: it holds, or 7.
 fn rule(ok: bool, expected: usize, actual: usize) -> Checked
-    ensures { λ a. ⌜ a ≡ Rattle.wire.specs.Block.rule ok expected actual ⌝ }
+    ensures { λ a. ⌜ a ≡ Rattle.def_wire.specs.Block.rule ok expected actual ⌝ }
 {
     if ok {
         return Checked::Fine;
@@ -127,7 +127,7 @@ pub fn fields(r: Reading, t: u8, v: &[u8]) -> FieldsOr
 
 // 8: the crate's fields of a type 3 block of which less than 12 bytes are left.
 fn is_cut(r: Reading, t: u8, left: usize) -> bool
-    ensures { λ a. ⌜ a ≡ Rattle.wire.specs.Block.isCut r t left ⌝ }
+    ensures { λ a. ⌜ a ≡ Rattle.def_wire.specs.Block.isCut r t left ⌝ }
 {
     match r {
         Reading::Standard => false,

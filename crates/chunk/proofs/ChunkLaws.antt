@@ -10,11 +10,11 @@ use native.Mathlib.Omega.{arith}
 use lib.ListN.{length, getD, take, replicate, length-map, List·getD-eq-default}
 use lib.Dec.{ltb}
 use borrow.Author.Tests.{lt-ltb, le-ltb, ltb-true, ltb-false, le-leb, lt-leb, ne-eqb}
-use Rattle.base.proofs.Tests.{both, either}
-use Rattle.refusals.specs.declared.Refusal.the-variants.{ValueTooLarge}
-use Rattle.standard.specs.declared.Chunk.the-variants.{Null, Skip, Run, Vector}
-use Rattle.standard.specs.declared.MadeWord.the-variants.{Word, Unmade}
-use Rattle.standard.specs.Chunks.{coversOf, valueOf, countFrom, valuesIn, chunkOf, within, wordOf}
+use Rattle.laws.proofs.Tests.{both, either}
+use Rattle.def_refusals.specs.declared.Refusal.the-variants.{ValueTooLarge}
+use Rattle.def_standard.specs.declared.Chunk.the-variants.{Null, Skip, Run, Vector}
+use Rattle.def_standard.specs.declared.MadeWord.the-variants.{Word, Unmade}
+use Rattle.def_standard.specs.Chunks.{coversOf, valueOf, countFrom, valuesIn, chunkOf, within, wordOf}
 
 -- ---- by its kind
 

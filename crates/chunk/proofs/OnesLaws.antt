@@ -8,8 +8,8 @@ use lib.ListN.{length, replicate}
 use lib.Dec.{eqb}
 use lib.Pow.{field, mod-mod-pow, shr-shr, shr-le}
 use lib.Count.{ones, ones-step, ones-le}
-use Rattle.standard.specs.Chunks.{countFrom}
-use Rattle.standard.specs.Listing.{listFrom}
+use Rattle.def_standard.specs.Chunks.{countFrom}
+use Rattle.def_standard.specs.Listing.{listFrom}
 use Rattle.chunk.specs.Ones.{onesBefore}
 use Rattle.chunk.proofs.ChunkLaws.{counted-snoc, values-take-run, values-take-vector}
 

@@ -4,7 +4,7 @@ use contract.Lifetimes.{Lfts}
 use borrow.Fn.World.{ArgsD, ResD}
 use borrow.Fn.Kinds.{endedOf}
 use denote.Triple.Clauses.{AtExit}
-use Rattle.base.proofs.Answering.{listed-unique}
+use Rattle.laws.proofs.Answering.{listed-unique}
 use Rattle.chunk.proofs.kind_bit as kind-bit
 use Rattle.chunk.proofs.kind_bit.Reads as kind-bit-reads
 use Rattle.chunk.proofs.kind_bit.Kinds as kind-bit-kinds

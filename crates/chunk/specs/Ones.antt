@@ -3,8 +3,8 @@ use Prim.Native.Nat.{ℕ}
 use mathlib.Core.List.{List}
 use lib.ListN.{take}
 use lib.Dec.{eqb}
-use Rattle.standard.specs.Chunks.{valuesIn}
-use Rattle.standard.specs.Listing.{listFrom}
+use Rattle.def_standard.specs.Chunks.{valuesIn}
+use Rattle.def_standard.specs.Listing.{listFrom}
 
 -- those among the first `room` places, in order
 unfoldable pub onesBefore : ℕ → ℕ → List ℕ

@@ -3,13 +3,13 @@
 ghost use mathlib.Core.Path.{_≡_};
 ghost use Prim.Native.Nat.{_+_, _-_, _/_, _%_, _^_, _≤_, min};
 ghost use lib.ListN.{length};
-ghost use Rattle.refusals.specs.Answers.{Listed};
-ghost use Rattle.standard.specs.Chunks.{coversOf, valueOf, chunkOf, wordOf, wordBytes};
+ghost use Rattle.def_refusals.specs.Answers.{Listed};
+ghost use Rattle.def_standard.specs.Chunks.{coversOf, valueOf, chunkOf, wordOf, wordBytes};
 ghost use Rattle.chunk.specs.Ones.{onesBefore};
-use refusals::Answer;
-use refusals::Refusal;
-use standard::Chunk;
-use standard::MadeWord;
+use def_refusals::Answer;
+use def_refusals::Refusal;
+use def_standard::Chunk;
+use def_standard::MadeWord;
 
 // 1 where the word is a bit vector, else 0. Port of: rle.rs RleChunk::parse, as the next three.
 pub fn kind_bit(w: u16) -> u16

@@ -12,25 +12,25 @@ use lib.ListN.{length, take, drop, length-drop, drop-of-length-le}
 use lib.Seq.{take-all}
 use lib.Dec.{ltb, eqb}
 use borrow.Author.Tests.{le-leb, lt-leb, ltb-true, ltb-false}
-use Rattle.base.proofs.Tests.{both, either}
-use Rattle.refusals.specs.declared.Refusal.{Refusal}
-use Rattle.refusals.specs.declared.Refusal.the-variants.{NoPlace, NoRoom}
-use Rattle.refusals.specs.declared.Checked.the-variants.{Fine, Unfit}
-use Rattle.wire.specs.declared.Fields.{Fields}
-use Rattle.wire.specs.declared.Located.the-variants.{At, Missing}
-use Rattle.wire.specs.declared.Reading.the-variants.{Standard}
-use Rattle.wire.specs.Packet.{locate, part}
-use Rattle.wire.specs.Block.{fieldsAt, checkOf}
-use Rattle.standard.specs.declared.Range.{Range}
-use Rattle.standard.specs.Range.{circle, rangeOf}
-use Rattle.standard.specs.Standard.{standardWords}
+use Rattle.laws.proofs.Tests.{both, either}
+use Rattle.def_refusals.specs.declared.Refusal.{Refusal}
+use Rattle.def_refusals.specs.declared.Refusal.the-variants.{NoPlace, NoRoom}
+use Rattle.def_refusals.specs.declared.Checked.the-variants.{Fine, Unfit}
+use Rattle.def_wire.specs.declared.Fields.{Fields}
+use Rattle.def_wire.specs.declared.Located.the-variants.{At, Missing}
+use Rattle.def_wire.specs.declared.Reading.the-variants.{Standard}
+use Rattle.def_wire.specs.Packet.{locate, part}
+use Rattle.def_wire.specs.Block.{fieldsAt, checkOf}
+use Rattle.def_standard.specs.declared.Range.{Range}
+use Rattle.def_standard.specs.Range.{circle, rangeOf}
+use Rattle.def_standard.specs.Standard.{standardWords}
 use Rattle.rle.specs.Inside.{insideCount}
 use Rattle.rle.proofs.InsideLaws.{inside-count-le}
-use Rattle.cursors.specs.declared.Cursor.{Cursor}
-use Rattle.cursors.specs.declared.Stretch.{Stretch}
-use Rattle.cursors.specs.declared.Advanced.{Advanced}
-use Rattle.cursors.specs.declared.Advanced.the-variants.{Moved, Stuck}
-use Rattle.cursors.specs.Cursor.{legal, advanceFault, advanceOf, stretchFilled, Stretched, StretchedIn}
+use Rattle.def_cursor.specs.declared.Cursor.{Cursor}
+use Rattle.def_cursor.specs.declared.Stretch.{Stretch}
+use Rattle.def_cursor.specs.declared.Advanced.{Advanced}
+use Rattle.def_cursor.specs.declared.Advanced.the-variants.{Moved, Stuck}
+use Rattle.def_cursor.specs.Cursor.{legal, advanceFault, advanceOf, stretchFilled, Stretched, StretchedIn}
 use Rattle.cursor.specs.Steps.{Gone, Advancing}
 
 -- no range has over 65,536 positions inside

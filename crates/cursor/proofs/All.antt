@@ -12,17 +12,17 @@ use mathlib.Core.List.{List, [], _∷_, _++_}
 use native.Mathlib.Omega.{arith}
 use lib.ListN.{length, take, drop}
 use lib.Seq.{take-append-seam}
-use Rattle.refusals.specs.declared.Checked.{Checked}
-use Rattle.refusals.specs.declared.Checked.the-variants.{Fine, Unfit}
-use Rattle.wire.specs.Block.{fieldsAt}
-use Rattle.standard.specs.declared.Range.{Range}
-use Rattle.standard.specs.Range.{circle, rangeOf}
-use Rattle.standard.specs.Standard.{numbersOf, standardWords, standardNumbers}
+use Rattle.def_refusals.specs.declared.Checked.{Checked}
+use Rattle.def_refusals.specs.declared.Checked.the-variants.{Fine, Unfit}
+use Rattle.def_wire.specs.Block.{fieldsAt}
+use Rattle.def_standard.specs.declared.Range.{Range}
+use Rattle.def_standard.specs.Range.{circle, rangeOf}
+use Rattle.def_standard.specs.Standard.{numbersOf, standardWords, standardNumbers}
 use Rattle.rle.specs.Inside.{insideCount}
-use Rattle.cursors.specs.declared.Cursor.{Cursor}
-use Rattle.cursors.specs.declared.Stretch.{Stretch}
-use Rattle.cursors.specs.declared.Advanced.the-variants.{Moved}
-use Rattle.cursors.specs.Cursor.{start, legal, takenBy, afterSteps, listedBy, stepsLeft, stretchOf, advanceTo, leftTo, advanceFault, advanceOf, stretchFilled, Stretched}
+use Rattle.def_cursor.specs.declared.Cursor.{Cursor}
+use Rattle.def_cursor.specs.declared.Stretch.{Stretch}
+use Rattle.def_cursor.specs.declared.Advanced.the-variants.{Moved}
+use Rattle.def_cursor.specs.Cursor.{start, legal, takenBy, afterSteps, listedBy, stepsLeft, stretchOf, advanceTo, leftTo, advanceFault, advanceOf, stretchFilled, Stretched}
 use Rattle.cursor.specs.Calls.{total, stretches, Calls, ended, called}
 use Rattle.cursor.proofs.LegalLaws.{legal-start}
 use Rattle.cursor.proofs.StepsLaws.{listed-zero, listed-add}

@@ -12,16 +12,16 @@ use lib.ListN.{length, getD, drop, length-append, drop-of-length-le, List·getD-
 use lib.Seq.{drop-cons, drop-at, drop-nil}
 use lib.Dec.{ltb}
 use borrow.Author.Tests.{ltb-true, ltb-false}
-use Rattle.base.proofs.Tests.{either}
-use Rattle.standard.specs.declared.Range.{Range}
-use Rattle.standard.specs.Chunks.{coversOf, valueOf, valuesIn}
-use Rattle.standard.specs.Range.{circle, numberOf}
-use Rattle.standard.specs.Standard.{valuesOf, isListed, numbersFrom, numbersOf}
+use Rattle.laws.proofs.Tests.{either}
+use Rattle.def_standard.specs.declared.Range.{Range}
+use Rattle.def_standard.specs.Chunks.{coversOf, valueOf, valuesIn}
+use Rattle.def_standard.specs.Range.{circle, numberOf}
+use Rattle.def_standard.specs.Standard.{valuesOf, isListed, numbersFrom, numbersOf}
 use Rattle.chunk.proofs.ChunkLaws.{length-valuesIn, values-at}
 use Rattle.rle.specs.Inside.{insideCount, numbersIn}
 use Rattle.rle.proofs.NumbersLaws.{numbersIn-cons}
-use Rattle.cursors.specs.declared.Cursor.{Cursor}
-use Rattle.cursors.specs.Cursor.{cursor, start, stepsIn, wordAt, legal, nextPosition, stepOf, listedAt, takenBy, listedBy, stepsLeft}
+use Rattle.def_cursor.specs.declared.Cursor.{Cursor}
+use Rattle.def_cursor.specs.Cursor.{cursor, start, stepsIn, wordAt, legal, nextPosition, stepOf, listedAt, takenBy, listedBy, stepsLeft}
 use Rattle.cursor.proofs.LegalLaws.{steps-some, steps-none, legal-position, legal-place, legal-in, legal-next, listed-none, listed-place, by-step}
 use Rattle.cursor.proofs.StepsLaws.{taken-none, taken-suc, taken-end, listed-zero, listed-suc, listed-end}
 use Rattle.cursor.proofs.WithinLaws.{numbers-capped, join}

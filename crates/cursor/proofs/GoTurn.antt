@@ -8,13 +8,13 @@ use mathlib.Core.Bool.{true}
 use mathlib.Core.List.{List, _++_}
 use native.Mathlib.Omega.{arith}
 use lib.ListN.{length}
-use Rattle.standard.specs.declared.Range.{Range}
-use Rattle.standard.specs.Range.{circle, numberOf}
+use Rattle.def_standard.specs.declared.Range.{Range}
+use Rattle.def_standard.specs.Range.{circle, numberOf}
 use Rattle.rle.specs.Along.{along}
 use Rattle.rle.specs.Inside.{insideCount, stepOf}
-use Rattle.base.proofs.Filling.{Filling, done}
-use Rattle.cursors.specs.declared.Cursor.{Cursor}
-use Rattle.cursors.specs.Cursor.{stepsIn, wordAt, legal, takenBy, afterSteps, listedBy}
+use Rattle.laws.proofs.Filling.{Filling, done}
+use Rattle.def_cursor.specs.declared.Cursor.{Cursor}
+use Rattle.def_cursor.specs.Cursor.{stepsIn, wordAt, legal, takenBy, afterSteps, listedBy}
 use Rattle.cursor.specs.Steps.{placesIn, movedIn, Gone}
 use Rattle.cursor.proofs.LegalLaws.{legal-position, legal-place}
 use Rattle.cursor.proofs.StepsLaws.{taken-none, after-none, listed-zero, taken-end, after-end, listed-end, taken-add, after-add, listed-add}

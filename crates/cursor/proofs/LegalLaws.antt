@@ -7,14 +7,14 @@ use native.Mathlib.Omega.{arith}
 use lib.ListN.{length, getD}
 use lib.Dec.{ltb, eqb}
 use borrow.Author.Tests.{le-ltb, lt-ltb, eq-eqb, ne-eqb, ltb-true, ltb-false, eqb-true, eqb-false}
-use Rattle.base.proofs.Tests.{by-test, both, either, true≢false}
-use Rattle.standard.specs.declared.Range.{Range}
-use Rattle.standard.specs.Chunks.{coversOf, valueOf}
-use Rattle.standard.specs.Range.{circle, numberOf}
-use Rattle.standard.specs.Standard.{isListed}
+use Rattle.laws.proofs.Tests.{by-test, both, either, true≢false}
+use Rattle.def_standard.specs.declared.Range.{Range}
+use Rattle.def_standard.specs.Chunks.{coversOf, valueOf}
+use Rattle.def_standard.specs.Range.{circle, numberOf}
+use Rattle.def_standard.specs.Standard.{isListed}
 use Rattle.chunk.proofs.ChunkLaws.{covers-lt}
-use Rattle.cursors.specs.declared.Cursor.{Cursor}
-use Rattle.cursors.specs.Cursor.{cursor, start, stepsIn, wordAt, legal, nextPosition, stepOf, listedAt}
+use Rattle.def_cursor.specs.declared.Cursor.{Cursor}
+use Rattle.def_cursor.specs.Cursor.{cursor, start, stepsIn, wordAt, legal, nextPosition, stepOf, listedAt}
 
 -- a word that covers any takes a step for each place; one that covers none takes one
 pub steps-some : (w : ℕ) → 0 < coversOf w → stepsIn w ≡ coversOf w

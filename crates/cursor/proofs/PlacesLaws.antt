@@ -9,17 +9,17 @@ use lib.ListN.{take, drop, replicate, length-take}
 use lib.Seq.{take-take, take-all}
 use lib.Dec.{ltb}
 use borrow.Author.Tests.{ltb-true, ltb-false}
-use Rattle.base.proofs.Tests.{either}
-use Rattle.standard.specs.declared.Range.{Range}
-use Rattle.standard.specs.Chunks.{coversOf, valuesIn}
-use Rattle.standard.specs.Range.{numberOf}
+use Rattle.laws.proofs.Tests.{either}
+use Rattle.def_standard.specs.declared.Range.{Range}
+use Rattle.def_standard.specs.Chunks.{coversOf, valuesIn}
+use Rattle.def_standard.specs.Range.{numberOf}
 use Rattle.chunk.proofs.ChunkLaws.{covers-run, values-run}
 use Rattle.rle.specs.Along.{along, progression}
 use Rattle.rle.specs.Inside.{insideCount, stepOf, numbersIn}
 use Rattle.rle.proofs.ListingLaws.{along-ones, along-zeros}
 use Rattle.rle.proofs.WordLaws.{take-replicate, alongFrom}
 use Rattle.rle.proofs.NumbersLaws.{numbers-along}
-use Rattle.cursors.specs.Cursor.{stepsIn}
+use Rattle.def_cursor.specs.Cursor.{stepsIn}
 use Rattle.cursor.specs.Steps.{placesIn}
 use Rattle.cursor.proofs.LegalLaws.{steps-some}
 

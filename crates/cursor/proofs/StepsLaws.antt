@@ -12,10 +12,10 @@ use native.Mathlib.Omega.{arith}
 use lib.ListN.{length, length-append}
 use lib.Dec.{ltb}
 use borrow.Author.Tests.{le-ltb, lt-ltb, ltb-true, ltb-false}
-use Rattle.base.proofs.Tests.{either}
-use Rattle.standard.specs.declared.Range.{Range}
-use Rattle.cursors.specs.declared.Cursor.{Cursor}
-use Rattle.cursors.specs.Cursor.{wordAt, stepOf, listedAt, takenBy, afterSteps, listedBy}
+use Rattle.laws.proofs.Tests.{either}
+use Rattle.def_standard.specs.declared.Range.{Range}
+use Rattle.def_cursor.specs.declared.Cursor.{Cursor}
+use Rattle.def_cursor.specs.Cursor.{wordAt, stepOf, listedAt, takenBy, afterSteps, listedBy}
 use Rattle.cursor.proofs.LegalLaws.{length-listed}
 
 -- ---- at the end

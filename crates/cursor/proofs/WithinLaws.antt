@@ -12,16 +12,16 @@ use lib.ListN.{length, getD, drop-of-length-le}
 use lib.Seq.{drop-cons, take-nil}
 use lib.Dec.{ltb, eqb}
 use borrow.Author.Tests.{le-ltb, lt-ltb, ltb-true, ltb-false, eqb-true, eqb-false}
-use Rattle.base.proofs.Tests.{both, either}
-use Rattle.standard.specs.declared.Range.{Range}
-use Rattle.standard.specs.Chunks.{coversOf, valueOf, valuesIn}
-use Rattle.standard.specs.Range.{circle, numberOf}
-use Rattle.standard.specs.Standard.{isListed}
+use Rattle.laws.proofs.Tests.{both, either}
+use Rattle.def_standard.specs.declared.Range.{Range}
+use Rattle.def_standard.specs.Chunks.{coversOf, valueOf, valuesIn}
+use Rattle.def_standard.specs.Range.{circle, numberOf}
+use Rattle.def_standard.specs.Standard.{isListed}
 use Rattle.chunk.proofs.ChunkLaws.{length-valuesIn, values-at}
 use Rattle.rle.specs.Inside.{insideCount, numbersIn}
 use Rattle.rle.proofs.NumbersLaws.{numbersIn-outside, numbersIn-cons}
-use Rattle.cursors.specs.declared.Cursor.{Cursor}
-use Rattle.cursors.specs.Cursor.{cursor, stepsIn, legal, nextPosition, stepOf, takenBy, afterSteps, listedBy}
+use Rattle.def_cursor.specs.declared.Cursor.{Cursor}
+use Rattle.def_cursor.specs.Cursor.{cursor, stepsIn, legal, nextPosition, stepOf, takenBy, afterSteps, listedBy}
 use Rattle.cursor.specs.Steps.{placesIn, positionIn, movedIn}
 use Rattle.cursor.proofs.LegalLaws.{steps-some, steps-none, legal-in, legal-next, step-none, step-inner, step-last, listed-none, listed-place}
 use Rattle.cursor.proofs.StepsLaws.{taken-none, after-none, listed-zero, taken-suc, after-suc, listed-suc}

@@ -5,11 +5,11 @@
 use Prim.Native.Nat.{ℕ, _+_}
 use mathlib.Core.List.{List, [], _∷_, _++_}
 use lib.ListN.{take}
-use Rattle.standard.specs.declared.Range.{Range}
-use Rattle.cursors.specs.declared.Cursor.{Cursor}
-use Rattle.cursors.specs.declared.Stretch.{Stretch}
-use Rattle.cursors.specs.declared.Advanced.the-variants.{Moved}
-use Rattle.cursors.specs.Cursor.{afterSteps, listedBy, Stretched}
+use Rattle.def_standard.specs.declared.Range.{Range}
+use Rattle.def_cursor.specs.declared.Cursor.{Cursor}
+use Rattle.def_cursor.specs.declared.Stretch.{Stretch}
+use Rattle.def_cursor.specs.declared.Advanced.the-variants.{Moved}
+use Rattle.def_cursor.specs.Cursor.{afterSteps, listedBy, Stretched}
 
 abbrev pub total : List ℕ → ℕ
 total [] = 0

@@ -9,13 +9,13 @@ use mathlib.Core.Bool.{cond}
 use mathlib.Core.List.{List, _++_}
 use lib.ListN.{length, take, drop}
 use lib.Dec.{ltb}
-use Rattle.standard.specs.declared.Range.{Range}
-use Rattle.standard.specs.Chunks.{coversOf, valuesIn}
-use Rattle.standard.specs.Range.{circle}
-use Rattle.cursors.specs.declared.Cursor.{Cursor}
-use Rattle.cursors.specs.declared.Stretch.{Stretch}
-use Rattle.cursors.specs.declared.Advanced.{Advanced}
-use Rattle.cursors.specs.Cursor.{cursor, stepsIn, cursorFault, stretchOf, advanceTo, leftTo, listedBy}
+use Rattle.def_standard.specs.declared.Range.{Range}
+use Rattle.def_standard.specs.Chunks.{coversOf, valuesIn}
+use Rattle.def_standard.specs.Range.{circle}
+use Rattle.def_cursor.specs.declared.Cursor.{Cursor}
+use Rattle.def_cursor.specs.declared.Stretch.{Stretch}
+use Rattle.def_cursor.specs.declared.Advanced.{Advanced}
+use Rattle.def_cursor.specs.Cursor.{cursor, stepsIn, cursorFault, stretchOf, advanceTo, leftTo, listedBy}
 
 abbrev pub placesIn : ℕ → ℕ → ℕ → List ℕ
 placesIn w q m = take m (drop q (valuesIn w))

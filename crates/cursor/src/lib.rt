@@ -6,19 +6,19 @@ ghost use mathlib.Core.Path.{_≡_};
 ghost use mathlib.Core.Bool.{true};
 ghost use Prim.Native.Nat.{_+_, _-_, _≤_, _<_, min};
 ghost use lib.ListN.{length, getD};
-ghost use Rattle.wire.specs.Bytes.{words16};
-ghost use Rattle.standard.specs.Range.{circle};
+ghost use Rattle.def_wire.specs.Bytes.{words16};
+ghost use Rattle.def_standard.specs.Range.{circle};
 ghost use Rattle.rle.specs.Inside.{insideCount};
-ghost use Rattle.cursors.specs.Cursor.{legal, stepsIn, Stretched, StretchedIn};
+ghost use Rattle.def_cursor.specs.Cursor.{legal, stepsIn, Stretched, StretchedIn};
 ghost use Rattle.cursor.specs.Steps.{movedIn, Gone, Advancing};
-use cursors::Advanced;
-use cursors::Cursor;
-use cursors::Stretch;
-use refusals::Checked;
-use refusals::Refusal;
-use standard::Range;
-use wire::Located;
-use wire::Reading;
+use def_cursor::Advanced;
+use def_cursor::Cursor;
+use def_cursor::Stretch;
+use def_refusals::Checked;
+use def_refusals::Refusal;
+use def_standard::Range;
+use def_wire::Located;
+use def_wire::Reading;
 
 fn lesser(a: usize, b: usize) -> usize
     ensures { λ r. ⌜ r ≡ min a b ⌝ }

@@ -2,10 +2,10 @@
 ghost use mathlib.Core.Path.{_≡_};
 ghost use Prim.Native.Nat.{_+_, _-_, _≤_, _<_};
 ghost use lib.ListN.{length};
-ghost use Rattle.standard.specs.Chunks.{valueOf};
-ghost use Rattle.base.proofs.Stores.{Wrote};
+ghost use Rattle.def_standard.specs.Chunks.{valueOf};
+ghost use Rattle.laws.proofs.Stores.{Wrote};
 ghost use Rattle.rle.specs.Along.{along};
-ghost use Rattle.cursors.specs.Cursor.{stepsIn};
+ghost use Rattle.def_cursor.specs.Cursor.{stepsIn};
 ghost use Rattle.cursor.specs.Steps.{placesIn};
 
 // The value at a vector's place.

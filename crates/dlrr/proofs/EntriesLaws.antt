@@ -4,21 +4,21 @@ use mathlib.Core.Path.{_≡_, refl, sym, ap, _∙_}
 use mathlib.Core.List.{List, [], _∷_, _++_, map}
 use native.Mathlib.Omega.{arith}
 use lib.ListN.{length, drop, take, length-drop, length-map, length-take}
-use Rattle.refusals.specs.declared.Refusal.{Refusal}
-use Rattle.refusals.specs.declared.Refusal.the-variants.{NoRoom}
-use Rattle.refusals.specs.declared.Answer.the-variants.{Done, Refused}
-use Rattle.refusals.specs.declared.Checked.the-variants.{Fine, Unfit}
-use Rattle.refusals.specs.Answers.{Or, shown, refused, each}
-use Rattle.base.proofs.Answering.{answer-listed, answer-full, answer-refused, filled-listed, filled-full, filled-refused}
-use Rattle.wire.specs.declared.Reading.{Reading}
-use Rattle.wire.specs.declared.Located.the-variants.{At, Missing}
-use Rattle.wire.specs.Packet.{locate, part}
-use Rattle.wire.specs.Bytes.{be32, words32}
-use Rattle.wire.specs.Block.{checkOf, echoType}
-use Rattle.standard.specs.declared.Echo.{Echo}
-use Rattle.standard.specs.Standard.{echoesOf, entriesOf}
-use Rattle.readings.specs.Questions.{entriesShown, ListedEntries, least3}
-use Rattle.readings.specs.Packets.{entriesAsked}
+use Rattle.def_refusals.specs.declared.Refusal.{Refusal}
+use Rattle.def_refusals.specs.declared.Refusal.the-variants.{NoRoom}
+use Rattle.def_refusals.specs.declared.Answer.the-variants.{Done, Refused}
+use Rattle.def_refusals.specs.declared.Checked.the-variants.{Fine, Unfit}
+use Rattle.def_refusals.specs.Answers.{Or, shown, refused, each}
+use Rattle.laws.proofs.Answering.{answer-listed, answer-full, answer-refused, filled-listed, filled-full, filled-refused}
+use Rattle.def_wire.specs.declared.Reading.{Reading}
+use Rattle.def_wire.specs.declared.Located.the-variants.{At, Missing}
+use Rattle.def_wire.specs.Packet.{locate, part}
+use Rattle.def_wire.specs.Bytes.{be32, words32}
+use Rattle.def_wire.specs.Block.{checkOf, echoType}
+use Rattle.def_standard.specs.declared.Echo.{Echo}
+use Rattle.def_standard.specs.Standard.{echoesOf, entriesOf}
+use Rattle.def_questions.specs.Questions.{entriesShown, ListedEntries, least3}
+use Rattle.def_questions.specs.Packets.{entriesAsked}
 use Rattle.utils.proofs.BytesLaws.{words32-cons, words32-end, length-words32}
 use Rattle.dlrr.specs.Entries.{echoAt, ssrcIn, lastIn, delayIn, Stored}
 

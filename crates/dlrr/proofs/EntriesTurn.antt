@@ -4,11 +4,11 @@ use mathlib.Core.Path.{_≡_, refl, sym, ap, _∙_}
 use mathlib.Core.List.{List, [], _∷_, map}
 use native.Mathlib.Omega.{arith}
 use lib.ListN.{length, drop, set, length-map}
-use Rattle.base.proofs.Filling.{Filling, start, within, put, skip, done}
-use Rattle.wire.specs.Bytes.{words32}
-use Rattle.standard.specs.declared.Echo.{Echo}
-use Rattle.standard.specs.Standard.{echoesOf, entriesOf}
-use Rattle.readings.specs.Questions.{least3}
+use Rattle.laws.proofs.Filling.{Filling, start, within, put, skip, done}
+use Rattle.def_wire.specs.Bytes.{words32}
+use Rattle.def_standard.specs.declared.Echo.{Echo}
+use Rattle.def_standard.specs.Standard.{echoesOf, entriesOf}
+use Rattle.def_questions.specs.Questions.{least3}
 use Rattle.dlrr.specs.Entries.{echoAt, ssrcIn, lastIn, delayIn, Stored}
 use Rattle.dlrr.proofs.EntriesLaws.{echoes-cons, length-entries}
 

@@ -3,8 +3,8 @@ use Prim.Native.Nat.{ℕ, _+_}
 use mathlib.Core.Path.{_≡_}
 use mathlib.Core.List.{List, _++_, map}
 use lib.ListN.{length, drop}
-use Rattle.wire.specs.Bytes.{be32}
-use Rattle.standard.specs.declared.Echo.{Echo}
+use Rattle.def_wire.specs.Bytes.{be32}
+use Rattle.def_standard.specs.declared.Echo.{Echo}
 
 abbrev pub echoAt : List ℕ → ℕ → Echo
 echoAt v at = record { ssrc = be32 v at; last = record { 0 = be32 v (at + 4) }; delay = record { 0 = be32 v (at + 8) } }

@@ -4,17 +4,17 @@ ghost use mathlib.Core.Path.{_≡_};
 ghost use mathlib.Core.List.{_++_, map};
 ghost use Prim.Native.Nat.{_+_, _*_, _-_, _/_, _≤_, _<_, min};
 ghost use lib.ListN.{length, drop};
-ghost use Rattle.standard.specs.Standard.{entriesOf};
-ghost use Rattle.readings.specs.Questions.{entriesShown, ListedEntries, least3};
-ghost use Rattle.readings.specs.Packets.{entriesAsked};
+ghost use Rattle.def_standard.specs.Standard.{entriesOf};
+ghost use Rattle.def_questions.specs.Questions.{entriesShown, ListedEntries, least3};
+ghost use Rattle.def_questions.specs.Packets.{entriesAsked};
 ghost use Rattle.dlrr.specs.Entries.{echoAt, Stored};
-use refusals::Answer;
-use refusals::Checked;
-use refusals::Refusal;
-use standard::Echo;
-use wire::Located;
-use wire::Reading;
-use wire::ShortTime;
+use def_refusals::Answer;
+use def_refusals::Checked;
+use def_refusals::Refusal;
+use def_standard::Echo;
+use def_wire::Located;
+use def_wire::Reading;
+use def_wire::ShortTime;
 
 // The entry at a place.
 fn entry(v: &[u8], at: usize) -> Echo

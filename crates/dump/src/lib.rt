@@ -3,13 +3,13 @@
 // the most that is shown of one list. These functions promise only that their answer is within the buffer (docs/PROMISES.md, "Exceptions").
 ghost use Prim.Native.Nat.{_≤_};
 ghost use lib.ListN.{length};
-use refusals::Answer;
-use refusals::Checked;
-use refusals::Refusal;
-use wire::Fields;
-use wire::FieldsOr;
-use wire::Reading;
-use wire::TimeOr;
+use def_refusals::Answer;
+use def_refusals::Checked;
+use def_refusals::Refusal;
+use def_wire::Fields;
+use def_wire::FieldsOr;
+use def_wire::Reading;
+use def_wire::TimeOr;
 
 // The longest packet that is dumped.
 const MAX_INPUT: usize = 65536;
@@ -18,7 +18,7 @@ const MAX_INPUT: usize = 65536;
 pub fn refused_line(buf: &mut [u8], at: usize, x: Refusal) -> usize
     ensures { λ r. ⌜ r ≤ length (now (buf .entry)) ⌝ }
 {
-    let row = numbering::number(x);
+    let row = refusal_number::number(x);
     let n = print::labelled(buf, at, b"refused", row.number as u64);
     print::line_end(buf, n)
 }

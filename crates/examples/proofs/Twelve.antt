@@ -1,24 +1,24 @@
 -- The twelve examples, by computation.
 use mathlib.Core.Path.{refl}
-use Rattle.refusals.specs.Numbers.{numbered}
-use Rattle.wire.specs.Bytes.{pairUp}
-use Rattle.wire.specs.Packet.{headerOf, placeOf, walkFrom, countOf, locate}
-use Rattle.wire.specs.Block.{standardRule, crateRule, fitness, checkOf, fieldsOf, timeOf}
-use Rattle.standard.specs.Chunks.{valuesIn}
-use Rattle.standard.specs.Range.{rangeOf, offsetOf, inside, numberOf}
-use Rattle.standard.specs.Standard.{valuesOf, numbersFrom, pairsFrom, echoesOf}
-use Rattle.old_crate.specs.Sequence.{passes}
-use Rattle.old_crate.specs.Crate.{onesIn, triesFrom, crateNumbersFrom, cratePairsFrom}
-use Rattle.readings.specs.Questions.{numbersShown, pairsShown, entriesShown}
-use Rattle.readings.specs.Packets.{numbersAsked, pairsAsked, entriesAsked, fieldsAsked}
-use Rattle.readings.specs.Shown.{recordOf, numbersRow}
-use Rattle.jobs.specs.Jobs.{pairLow, jobsFrom, isHeaderJob, isBlockJob, jobsFault}
-use Rattle.jobs.specs.Layout.{zerosBehind, blockBytes, blocksBytes, layoutOf}
-use Rattle.jobs.specs.Writing.{misleadingFrom, writeFault, packetOf}
+use Rattle.def_refusals.specs.Numbers.{numbered}
+use Rattle.def_wire.specs.Bytes.{pairUp}
+use Rattle.def_wire.specs.Packet.{headerOf, placeOf, walkFrom, countOf, locate}
+use Rattle.def_wire.specs.Block.{rleOf, rangedOf, kindOf, standardRule, crateRule, fitness, checkOf, fieldsOf, timeOf}
+use Rattle.def_standard.specs.Chunks.{valuesIn}
+use Rattle.def_standard.specs.Range.{rangeOf, offsetOf, inside, numberOf}
+use Rattle.def_standard.specs.Standard.{valuesOf, numbersFrom, pairsFrom, echoesOf}
+use Rattle.def_crate.specs.Sequence.{passes}
+use Rattle.def_crate.specs.Crate.{onesIn, triesFrom, crateNumbersFrom, cratePairsFrom}
+use Rattle.def_questions.specs.Questions.{numbersShown, pairsShown, entriesShown}
+use Rattle.def_questions.specs.Packets.{numbersAsked, pairsAsked, entriesAsked, fieldsAsked}
+use Rattle.def_jobs.specs.Shown.{recordOf, numbersRow}
+use Rattle.def_jobs.specs.Jobs.{pairLow, jobsFrom, isHeaderJob, isBlockJob, jobsFault}
+use Rattle.def_jobs.specs.Layout.{zerosBehind, blockBytes, blocksBytes, layoutOf}
+use Rattle.def_jobs.specs.Writing.{misleadingFrom, writeFault, packetOf}
 use Rattle.examples.specs.Examples.{Twelve}
 
 pub twelve : Twelve
-unfolding numbered pairUp headerOf placeOf walkFrom countOf locate standardRule crateRule fitness checkOf fieldsOf timeOf valuesIn rangeOf offsetOf inside numberOf valuesOf numbersFrom pairsFrom echoesOf passes onesIn triesFrom crateNumbersFrom cratePairsFrom numbersShown pairsShown entriesShown numbersAsked pairsAsked entriesAsked fieldsAsked recordOf numbersRow pairLow jobsFrom isHeaderJob isBlockJob jobsFault zerosBehind blockBytes blocksBytes layoutOf misleadingFrom writeFault packetOf
+unfolding numbered rleOf rangedOf kindOf pairUp headerOf placeOf walkFrom countOf locate standardRule crateRule fitness checkOf fieldsOf timeOf valuesIn rangeOf offsetOf inside numberOf valuesOf numbersFrom pairsFrom echoesOf passes onesIn triesFrom crateNumbersFrom cratePairsFrom numbersShown pairsShown entriesShown numbersAsked pairsAsked entriesAsked fieldsAsked recordOf numbersRow pairLow jobsFrom isHeaderJob isBlockJob jobsFault zerosBehind blockBytes blocksBytes layoutOf misleadingFrom writeFault packetOf
 twelve =
     record {
       one = (refl, refl, refl, refl);

@@ -2,24 +2,25 @@
 use Prim.Native.Nat.{ℕ}
 use mathlib.Core.Path.{_≡_}
 use mathlib.Core.List.{List, [], _∷_, _++_}
-use Rattle.refusals.specs.declared.Refusal.the-variants.{TooShort, BadBlockLength, Misleads}
-use Rattle.refusals.specs.declared.Answer.the-variants.{Done, Refused}
-use Rattle.refusals.specs.declared.Numbered.{Numbered}
-use Rattle.refusals.specs.Numbers.{numbered, row}
-use Rattle.refusals.specs.Answers.{Or, shown, refused}
-use Rattle.wire.specs.declared.Reading.the-variants.{Standard, Crate}
-use Rattle.wire.specs.declared.Fields.{Fields}
-use Rattle.wire.specs.declared.FieldsOr.the-variants.{Shown}
-use Rattle.wire.specs.Packet.{countOf, lengthAt}
-use Rattle.wire.specs.Block.{lossType}
-use Rattle.standard.specs.declared.Echo.{Echo}
-use Rattle.standard.specs.Chunks.{coversOf, valueOf}
-use Rattle.standard.specs.Range.{rangeOf}
-use Rattle.standard.specs.Standard.{numbersOf, receipt}
-use Rattle.old_crate.specs.Crate.{onesIn}
-use Rattle.readings.specs.Packets.{numbersAsked, pairsAsked, entriesAsked, fieldsAsked}
-use Rattle.jobs.specs.declared.Layout.the-variants.{Careful}
-use Rattle.jobs.specs.Writing.{packetOf}
+use Rattle.def_refusals.specs.declared.Refusal.the-variants.{TooShort, BadBlockLength, Misleads}
+use Rattle.def_refusals.specs.declared.Answer.the-variants.{Done, Refused}
+use Rattle.def_refusals.specs.declared.Numbered.{Numbered}
+use Rattle.def_refusals.specs.Numbers.{numbered, row}
+use Rattle.def_refusals.specs.Answers.{Or, shown, refused}
+use Rattle.def_wire.specs.declared.Reading.the-variants.{Standard, Crate}
+use Rattle.def_wire.specs.declared.Fields.{Fields}
+use Rattle.def_wire.specs.declared.FieldsOr.the-variants.{Shown}
+use Rattle.def_wire.specs.Packet.{countOf, lengthAt}
+use Rattle.def_wire.specs.declared.Rle.the-variants.{Loss}
+use Rattle.def_wire.specs.declared.Ranged.the-variants.{Chunks}
+use Rattle.def_standard.specs.declared.Echo.{Echo}
+use Rattle.def_standard.specs.Chunks.{coversOf, valueOf}
+use Rattle.def_standard.specs.Range.{rangeOf}
+use Rattle.def_standard.specs.Standard.{numbersOf, receipt}
+use Rattle.def_crate.specs.Crate.{onesIn}
+use Rattle.def_questions.specs.Packets.{numbersAsked, pairsAsked, entriesAsked, fieldsAsked}
+use Rattle.def_jobs.specs.declared.Layout.the-variants.{Careful}
+use Rattle.def_jobs.specs.Writing.{packetOf}
 use Rattle.examples.specs.Vectors.{packet3, packet4, packet5, packet6, packet7, packet9, packet10, turned10, packet11, packet12, headerJob, lossJob, echoJob, clockJob}
 
 abbrev pub fields : ℕ → ℕ → ℕ → ℕ → Fields
@@ -36,21 +37,21 @@ pub record Twelve : Type 0 where
   pub two : (onesIn 49152 ≡ 0 ∷ []) × (onesIn 32769 ≡ 14 ∷ [])
   -- 65534, 65535, 0, 1 in both
   pub three :
-      (numbersAsked Standard packet3 0 lossType ≡ shown (65534 ∷ 65535 ∷ 0 ∷ 1 ∷ []))
-      × (numbersAsked Crate packet3 0 lossType ≡ shown (65534 ∷ 65535 ∷ 0 ∷ 1 ∷ []))
+      (numbersAsked Standard packet3 0 Loss ≡ shown (65534 ∷ 65535 ∷ 0 ∷ 1 ∷ []))
+      × (numbersAsked Crate packet3 0 Loss ≡ shown (65534 ∷ 65535 ∷ 0 ∷ 1 ∷ []))
   -- the dump
   pub four :
       (countOf Standard packet4 ≡ Done 1) × (countOf Crate packet4 ≡ Done 1) × (lengthAt packet4 8 ≡ 16)
-      × (fieldsAsked Standard packet4 0 lossType ≡ Shown (fields 7 10 14 0)) × (fieldsAsked Crate packet4 0 lossType ≡ Shown (fields 7 10 14 0))
-      × (numbersAsked Standard packet4 0 lossType ≡ shown (10 ∷ 11 ∷ 12 ∷ 13 ∷ []))
-      × (numbersAsked Crate packet4 0 lossType ≡ shown (10 ∷ 11 ∷ []))
+      × (fieldsAsked Standard packet4 0 (Chunks Loss) ≡ Shown (fields 7 10 14 0)) × (fieldsAsked Crate packet4 0 (Chunks Loss) ≡ Shown (fields 7 10 14 0))
+      × (numbersAsked Standard packet4 0 Loss ≡ shown (10 ∷ 11 ∷ 12 ∷ 13 ∷ []))
+      × (numbersAsked Crate packet4 0 Loss ≡ shown (10 ∷ 11 ∷ []))
   -- standard 10, 11; crate 10 to 15
   pub five :
-      (numbersAsked Standard packet5 0 lossType ≡ shown (10 ∷ 11 ∷ []))
-      × (numbersAsked Crate packet5 0 lossType ≡ shown (10 ∷ 11 ∷ 12 ∷ 13 ∷ 14 ∷ 15 ∷ []))
+      (numbersAsked Standard packet5 0 Loss ≡ shown (10 ∷ 11 ∷ []))
+      × (numbersAsked Crate packet5 0 Loss ≡ shown (10 ∷ 11 ∷ 12 ∷ 13 ∷ 14 ∷ 15 ∷ []))
   -- standard 0, 32768; crate 0, 32768, 0
   pub six :
-      (numbersAsked Standard packet6 0 lossType ≡ shown (0 ∷ 32768 ∷ [])) × (numbersAsked Crate packet6 0 lossType ≡ shown (0 ∷ 32768 ∷ 0 ∷ []))
+      (numbersAsked Standard packet6 0 Loss ≡ shown (0 ∷ 32768 ∷ [])) × (numbersAsked Crate packet6 0 Loss ≡ shown (0 ∷ 32768 ∷ 0 ∷ []))
   -- standard two pairs; crate also 7 with 67108866 and 8 with the clock's high half
   pub seven :
       (pairsAsked Standard (packet7 9) 0 ≡ shown (receipt 5 100 ∷ receipt 6 200 ∷ []))

@@ -5,22 +5,22 @@ use mathlib.Core.List.{List}
 use native.Mathlib.Omega.{arith}
 use lib.ListN.{length, take, drop, length-take}
 use lib.Seq.{take-all}
-use Rattle.refusals.specs.declared.Refusal.{Refusal}
-use Rattle.refusals.specs.declared.Checked.the-variants.{Fine, Unfit}
-use Rattle.refusals.specs.declared.Answer.{Answer}
-use Rattle.refusals.specs.Answers.{Or, shown, refused, Listed}
-use Rattle.wire.specs.declared.Reading.{Reading}
-use Rattle.wire.specs.declared.Reading.the-variants.{Standard, Crate}
-use Rattle.wire.specs.declared.Fields.{Fields}
-use Rattle.wire.specs.declared.Located.the-variants.{At, Missing}
-use Rattle.wire.specs.Packet.{locate}
-use Rattle.wire.specs.Bytes.{words16}
-use Rattle.wire.specs.Block.{checkOf, blockLength, fieldsAt}
-use Rattle.standard.specs.Range.{rangeOf}
-use Rattle.standard.specs.Standard.{numbersOf}
-use Rattle.old_crate.specs.Crate.{crateNumbersFrom}
-use Rattle.readings.specs.Questions.{numbersShown, wordsShown, wordsIn, numbersIn}
-use Rattle.readings.specs.Packets.{numbersAsked, wordsAsked}
+use Rattle.def_refusals.specs.declared.Refusal.{Refusal}
+use Rattle.def_refusals.specs.declared.Checked.the-variants.{Fine, Unfit}
+use Rattle.def_refusals.specs.declared.Answer.{Answer}
+use Rattle.def_refusals.specs.Answers.{Or, shown, refused, Listed}
+use Rattle.def_wire.specs.declared.Reading.{Reading}
+use Rattle.def_wire.specs.declared.Reading.the-variants.{Standard, Crate}
+use Rattle.def_wire.specs.declared.Fields.{Fields}
+use Rattle.def_wire.specs.declared.Located.the-variants.{At, Missing}
+use Rattle.def_wire.specs.Packet.{locate}
+use Rattle.def_wire.specs.Bytes.{words16}
+use Rattle.def_wire.specs.Block.{checkOf, blockLength, fieldsAt}
+use Rattle.def_standard.specs.Range.{rangeOf}
+use Rattle.def_standard.specs.Standard.{numbersOf}
+use Rattle.def_crate.specs.Crate.{crateNumbersFrom}
+use Rattle.def_questions.specs.Questions.{numbersShown, wordsShown, wordsIn, numbersIn}
+use Rattle.def_questions.specs.Packets.{numbersAsked, wordsAsked}
 use Rattle.rle.specs.Failing.{longest}
 use Rattle.numbers.specs.Words.{wordBytes}
 

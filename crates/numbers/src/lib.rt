@@ -3,15 +3,15 @@
 ghost use mathlib.Core.Path.{_≡_};
 ghost use Prim.Native.Nat.{_+_, _*_, _-_, _≤_};
 ghost use lib.ListN.{length, take, drop};
-ghost use Rattle.refusals.specs.Answers.{Listed};
-ghost use Rattle.wire.specs.Block.{blockLength};
-ghost use Rattle.readings.specs.Questions.{numbersShown, wordsShown};
-ghost use Rattle.readings.specs.Packets.{numbersAsked, wordsAsked};
+ghost use Rattle.def_refusals.specs.Answers.{Listed};
+ghost use Rattle.def_wire.specs.Block.{blockLength};
+ghost use Rattle.def_questions.specs.Questions.{numbersShown, wordsShown};
+ghost use Rattle.def_questions.specs.Packets.{numbersAsked, wordsAsked};
 ghost use Rattle.numbers.specs.Words.{wordBytes};
-use refusals::Answer;
-use refusals::Checked;
-use wire::Located;
-use wire::Reading;
+use def_refusals::Answer;
+use def_refusals::Checked;
+use def_wire::Located;
+use def_wire::Reading;
 
 // The length L that a view's header says.
 fn says(v: &[u8]) -> usize

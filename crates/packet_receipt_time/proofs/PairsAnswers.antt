@@ -5,25 +5,25 @@ use mathlib.Core.Path.{_≡_, refl, sym, ap, _∙_}
 use mathlib.Core.List.{List, map}
 use native.Mathlib.Omega.{arith}
 use lib.ListN.{length, drop, take, length-map}
-use Rattle.refusals.specs.declared.Refusal.{Refusal}
-use Rattle.refusals.specs.declared.Refusal.the-variants.{NoRoom}
-use Rattle.refusals.specs.declared.Answer.the-variants.{Done, Refused}
-use Rattle.refusals.specs.declared.Checked.the-variants.{Fine, Unfit}
-use Rattle.refusals.specs.Answers.{Or, shown, refused, each}
-use Rattle.base.proofs.Answering.{answer-listed, answer-full, answer-refused, filled-listed, filled-full, filled-refused}
-use Rattle.wire.specs.declared.Reading.{Reading}
-use Rattle.wire.specs.declared.Reading.the-variants.{Standard, Crate}
-use Rattle.wire.specs.declared.Fields.{Fields}
-use Rattle.wire.specs.declared.Located.the-variants.{At, Missing}
-use Rattle.wire.specs.Packet.{locate}
-use Rattle.wire.specs.Bytes.{words32}
-use Rattle.wire.specs.Block.{checkOf, receiptType, fieldsAt}
-use Rattle.standard.specs.declared.Range.{Range}
-use Rattle.standard.specs.declared.Receipt.{Receipt}
-use Rattle.standard.specs.Range.{rangeOf, numberOf}
-use Rattle.old_crate.specs.Sequence.{doubledOf}
-use Rattle.readings.specs.Questions.{pairsIn, pairsShown, ListedPairs}
-use Rattle.readings.specs.Packets.{pairsAsked}
+use Rattle.def_refusals.specs.declared.Refusal.{Refusal}
+use Rattle.def_refusals.specs.declared.Refusal.the-variants.{NoRoom}
+use Rattle.def_refusals.specs.declared.Answer.the-variants.{Done, Refused}
+use Rattle.def_refusals.specs.declared.Checked.the-variants.{Fine, Unfit}
+use Rattle.def_refusals.specs.Answers.{Or, shown, refused, each}
+use Rattle.laws.proofs.Answering.{answer-listed, answer-full, answer-refused, filled-listed, filled-full, filled-refused}
+use Rattle.def_wire.specs.declared.Reading.{Reading}
+use Rattle.def_wire.specs.declared.Reading.the-variants.{Standard, Crate}
+use Rattle.def_wire.specs.declared.Fields.{Fields}
+use Rattle.def_wire.specs.declared.Located.the-variants.{At, Missing}
+use Rattle.def_wire.specs.Packet.{locate}
+use Rattle.def_wire.specs.Bytes.{words32}
+use Rattle.def_wire.specs.Block.{checkOf, receiptType, fieldsAt}
+use Rattle.def_standard.specs.declared.Range.{Range}
+use Rattle.def_standard.specs.declared.Receipt.{Receipt}
+use Rattle.def_standard.specs.Range.{rangeOf, numberOf}
+use Rattle.def_crate.specs.Sequence.{doubledOf}
+use Rattle.def_questions.specs.Questions.{pairsIn, pairsShown, ListedPairs}
+use Rattle.def_questions.specs.Packets.{pairsAsked}
 use Rattle.rle.specs.Inside.{stepOf}
 use Rattle.rle.specs.Failing.{never}
 use Rattle.packet_receipt_time.specs.Pairs.{listable, firstPairs, stepped, numberIn, timeIn, Stored}

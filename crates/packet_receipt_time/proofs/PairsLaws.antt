@@ -7,19 +7,19 @@ use native.Mathlib.Omega.{arith}
 use lib.ListN.{length, drop, length-drop}
 use lib.Dec.{ltb, eqb}
 use borrow.Author.Tests.{ltb-true, ltb-false, eqb-true, eqb-false}
-use Rattle.base.proofs.Tests.{either}
-use Rattle.wire.specs.declared.Reading.{Reading}
-use Rattle.wire.specs.declared.Reading.the-variants.{Standard, Crate}
-use Rattle.wire.specs.declared.Fields.{Fields}
-use Rattle.wire.specs.Bytes.{be32, words32}
-use Rattle.wire.specs.Block.{fieldsAt}
-use Rattle.standard.specs.declared.Range.{Range}
-use Rattle.standard.specs.declared.Receipt.{Receipt}
-use Rattle.standard.specs.Range.{rangeOf, offsetOf, inside, numberOf}
-use Rattle.standard.specs.Standard.{receipt, pairsFrom}
-use Rattle.old_crate.specs.Sequence.{sequenceOf, passes}
-use Rattle.old_crate.specs.Crate.{cratePairsFrom}
-use Rattle.readings.specs.Questions.{pairsIn}
+use Rattle.laws.proofs.Tests.{either}
+use Rattle.def_wire.specs.declared.Reading.{Reading}
+use Rattle.def_wire.specs.declared.Reading.the-variants.{Standard, Crate}
+use Rattle.def_wire.specs.declared.Fields.{Fields}
+use Rattle.def_wire.specs.Bytes.{be32, words32}
+use Rattle.def_wire.specs.Block.{fieldsAt}
+use Rattle.def_standard.specs.declared.Range.{Range}
+use Rattle.def_standard.specs.declared.Receipt.{Receipt}
+use Rattle.def_standard.specs.Range.{rangeOf, offsetOf, inside, numberOf}
+use Rattle.def_standard.specs.Standard.{receipt, pairsFrom}
+use Rattle.def_crate.specs.Sequence.{sequenceOf, passes}
+use Rattle.def_crate.specs.Crate.{cratePairsFrom}
+use Rattle.def_questions.specs.Questions.{pairsIn}
 use Rattle.utils.proofs.BytesLaws.{words32-cons, length-words32}
 use Rattle.rle.specs.Along.{onward}
 use Rattle.rle.specs.Inside.{insideCount, stepOf}

@@ -4,10 +4,10 @@ use mathlib.Core.Path.{_≡_, refl, sym, ap, _∙_}
 use mathlib.Core.List.{List, [], _∷_, map}
 use native.Mathlib.Omega.{arith}
 use lib.ListN.{length, drop, set, length-map, length-drop}
-use Rattle.base.proofs.Filling.{Filling, start, within, put, done}
-use Rattle.wire.specs.Bytes.{be32, words32}
-use Rattle.standard.specs.declared.Receipt.{Receipt}
-use Rattle.standard.specs.Standard.{receipt}
+use Rattle.laws.proofs.Filling.{Filling, start, within, put, done}
+use Rattle.def_wire.specs.Bytes.{be32, words32}
+use Rattle.def_standard.specs.declared.Receipt.{Receipt}
+use Rattle.def_standard.specs.Standard.{receipt}
 use Rattle.utils.proofs.BytesLaws.{words32-cons, length-words32}
 use Rattle.rle.specs.Along.{onward}
 use Rattle.packet_receipt_time.specs.Pairs.{stepped, numberIn, timeIn, Stored}

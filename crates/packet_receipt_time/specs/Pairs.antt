@@ -7,13 +7,13 @@ use Prim.Native.Nat.{ℕ, zero, suc}
 use mathlib.Core.Path.{_≡_}
 use mathlib.Core.List.{List, [], _∷_, _++_, map}
 use lib.ListN.{length, drop}
-use Rattle.wire.specs.declared.Reading.{Reading}
-use Rattle.wire.specs.declared.Reading.the-variants.{Standard, Crate}
-use Rattle.wire.specs.declared.Fields.{Fields}
-use Rattle.standard.specs.declared.Range.{Range}
-use Rattle.standard.specs.declared.Receipt.{Receipt}
-use Rattle.standard.specs.Range.{rangeOf, numberOf}
-use Rattle.standard.specs.Standard.{receipt}
+use Rattle.def_wire.specs.declared.Reading.{Reading}
+use Rattle.def_wire.specs.declared.Reading.the-variants.{Standard, Crate}
+use Rattle.def_wire.specs.declared.Fields.{Fields}
+use Rattle.def_standard.specs.declared.Range.{Range}
+use Rattle.def_standard.specs.declared.Receipt.{Receipt}
+use Rattle.def_standard.specs.Range.{rangeOf, numberOf}
+use Rattle.def_standard.specs.Standard.{receipt}
 use Rattle.rle.specs.Along.{onward}
 use Rattle.rle.specs.Inside.{insideCount}
 use Rattle.rle.specs.Failing.{firstFail}

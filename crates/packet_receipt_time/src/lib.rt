@@ -3,19 +3,19 @@
 ghost use mathlib.Core.Path.{_≡_};
 ghost use Prim.Native.Nat.{_+_, _*_, _-_, _/_, _≤_, _<_, _%_, min};
 ghost use lib.ListN.{length, drop};
-ghost use Rattle.wire.specs.Bytes.{be32, words32};
-ghost use Rattle.standard.specs.Range.{rangeOf, numberOf};
-ghost use Rattle.readings.specs.Questions.{pairsIn, pairsShown, ListedPairs};
-ghost use Rattle.readings.specs.Packets.{pairsAsked};
-ghost use Rattle.wire.specs.Block.{fieldsAt};
+ghost use Rattle.def_wire.specs.Bytes.{be32, words32};
+ghost use Rattle.def_standard.specs.Range.{rangeOf, numberOf};
+ghost use Rattle.def_questions.specs.Questions.{pairsIn, pairsShown, ListedPairs};
+ghost use Rattle.def_questions.specs.Packets.{pairsAsked};
+ghost use Rattle.def_wire.specs.Block.{fieldsAt};
 ghost use Rattle.packet_receipt_time.specs.Pairs.{listable, stepped, Stored};
-use refusals::Answer;
-use refusals::Checked;
-use refusals::Refusal;
-use wire::Fields;
-use wire::Located;
-use wire::Reading;
-use wire::ReceiptTime;
+use def_refusals::Answer;
+use def_refusals::Checked;
+use def_refusals::Refusal;
+use def_wire::Fields;
+use def_wire::Located;
+use def_wire::Reading;
+use def_wire::ReceiptTime;
 
 // The receipt time at a place.
 fn time_at(v: &[u8], at: usize) -> ReceiptTime

@@ -8,11 +8,11 @@ use lib.ListN.{length, take, drop, length-drop, drop-of-length-le}
 use lib.Seq.{take-all, take-nil}
 use lib.Dec.{leb}
 use borrow.Author.Tests.{lt-ltb, le-ltb, leb-true, leb-false}
-use Rattle.base.proofs.Tests.{either}
-use Rattle.wire.specs.declared.Reading.{Reading}
-use Rattle.wire.specs.declared.Reading.the-variants.{Standard, Crate}
-use Rattle.wire.specs.Packet.{lengthAt, sizeAt}
-use Rattle.wire.specs.Block.{headerData}
+use Rattle.laws.proofs.Tests.{either}
+use Rattle.def_wire.specs.declared.Reading.{Reading}
+use Rattle.def_wire.specs.declared.Reading.the-variants.{Standard, Crate}
+use Rattle.def_wire.specs.Packet.{lengthAt, sizeAt}
+use Rattle.def_wire.specs.Block.{headerData}
 use Rattle.reader.specs.Places.{nextPlace, viewFrom, startFrom, endFrom}
 
 -- where the view of the block at a place within the packet ends

@@ -6,11 +6,11 @@ use mathlib.Core.List.{List}
 use native.Mathlib.Numerals.{add-one}
 use native.Mathlib.Omega.{arith}
 use lib.ListN.{length}
-use Rattle.refusals.specs.Answers.{shown}
-use Rattle.refusals.specs.declared.Answer.the-variants.{Done}
-use Rattle.wire.specs.declared.Reading.{Reading}
-use Rattle.wire.specs.declared.Located.the-variants.{At}
-use Rattle.wire.specs.Packet.{lengthAt, placeOf, countOf, sizeAt, locate, viewOf, viewAt}
+use Rattle.def_refusals.specs.Answers.{shown}
+use Rattle.def_refusals.specs.declared.Answer.the-variants.{Done}
+use Rattle.def_wire.specs.declared.Reading.{Reading}
+use Rattle.def_wire.specs.declared.Located.the-variants.{At}
+use Rattle.def_wire.specs.Packet.{lengthAt, placeOf, countOf, sizeAt, locate, viewOf, viewAt}
 use Rattle.xr.specs.Parts.{bytesAt, partAt}
 use Rattle.xr.proofs.WalkLaws.{count-done, counted-within, place-zero, place-next, located-done}
 use Rattle.reader.specs.Places.{nextPlace, viewFrom, startFrom}

@@ -16,8 +16,8 @@ use borrow.Fn.Kinds.{endedOf}
 use denote.Ref.{RefT, now}
 use denote.Triple.Clauses.{AtExit}
 use lib.ListN.{drop}
-use Rattle.wire.specs.declared.Reading.{Reading}
-use Rattle.wire.specs.Block.{headerData}
+use Rattle.def_wire.specs.declared.Reading.{Reading}
+use Rattle.def_wire.specs.Block.{headerData}
 use Rattle.reader.specs.declared.Reader.{Reader}
 use Rattle.reader.specs.Places.{nextPlace, viewFrom, startFrom}
 use Rattle.reader.proofs.Held.{Stands}

@@ -8,8 +8,8 @@ use mathlib.Core.Bool.{cond}
 use mathlib.Core.List.{List}
 use lib.ListN.{length}
 use lib.Dec.{ltb}
-use Rattle.wire.specs.declared.Reading.{Reading}
-use Rattle.wire.specs.Packet.{lengthAt, sizeAt, part}
+use Rattle.def_wire.specs.declared.Reading.{Reading}
+use Rattle.def_wire.specs.Packet.{lengthAt, sizeAt, part}
 
 -- the block's length further on
 abbrev pub nextPlace : List ℕ → ℕ → ℕ

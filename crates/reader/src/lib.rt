@@ -4,10 +4,10 @@
 ghost use mathlib.Core.Path.{_≡_};
 ghost use Prim.Native.Nat.{_+_, _≤_, _<_, min};
 ghost use lib.ListN.{length, drop};
-ghost use Rattle.wire.specs.Packet.{lengthAt};
-ghost use Rattle.wire.specs.Block.{headerData};
+ghost use Rattle.def_wire.specs.Packet.{lengthAt};
+ghost use Rattle.def_wire.specs.Block.{headerData};
 ghost use Rattle.reader.specs.Places.{nextPlace, viewFrom, startFrom, endFrom};
-use wire::Reading;
+use def_wire::Reading;
 
 fn lesser(a: usize, b: usize) -> usize
     ensures { λ r. ⌜ r ≡ min a b ⌝ }

@@ -1,8 +1,8 @@
 -- What a packet is asked for, as a record of its own type.
-use Rattle.wire.specs.declared.FieldsOr.{FieldsOr}
-use Rattle.wire.specs.declared.FieldsOr.the-variants.{Shown, NoneOf}
-use Rattle.wire.specs.declared.TimeOr.{TimeOr}
-use Rattle.wire.specs.declared.TimeOr.the-variants.{Time, NoTime}
+use Rattle.def_wire.specs.declared.FieldsOr.{FieldsOr}
+use Rattle.def_wire.specs.declared.FieldsOr.the-variants.{Shown, NoneOf}
+use Rattle.def_wire.specs.declared.TimeOr.{TimeOr}
+use Rattle.def_wire.specs.declared.TimeOr.the-variants.{Time, NoTime}
 use Rattle.records.specs.declared.LossOr.{LossOr}
 use Rattle.records.specs.declared.LossOr.the-variants.{Loss, NoLoss}
 use Rattle.records.specs.declared.DuplicateOr.{DuplicateOr}

@@ -2,18 +2,18 @@
 // Port of: loss_rle.rs, duplicate_rle.rs, packet_receipt_time.rs, receiver_reference_time.rs, dlrr.rs;
 // differs: a block is asked by its index, in either reading, and a refusal says why.
 ghost use mathlib.Core.Path.{_≡_};
-ghost use Rattle.wire.specs.Block.{lossType, duplicateType, receiptType};
-ghost use Rattle.refusals.specs.Answers.{Listed};
-ghost use Rattle.readings.specs.Questions.{ListedPairs, ListedEntries};
-ghost use Rattle.readings.specs.Packets.{fieldsAsked, timeAsked, numbersAsked, wordsAsked, pairsAsked, entriesAsked};
+ghost use Rattle.def_wire.specs.Block.{lossType, duplicateType, receiptType};
+ghost use Rattle.def_refusals.specs.Answers.{Listed};
+ghost use Rattle.def_questions.specs.Questions.{ListedPairs, ListedEntries};
+ghost use Rattle.def_questions.specs.Packets.{fieldsAsked, timeAsked, numbersAsked, wordsAsked, pairsAsked, entriesAsked};
 ghost use Rattle.records.specs.Records.{lossOf, duplicateOf, receiptOf, clockOf};
-use refusals::Answer;
-use refusals::Refusal;
-use wire::Fields;
-use wire::FieldsOr;
-use wire::LongTime;
-use wire::Reading;
-use wire::TimeOr;
+use def_refusals::Answer;
+use def_refusals::Refusal;
+use def_wire::Fields;
+use def_wire::FieldsOr;
+use def_wire::LongTime;
+use def_wire::Reading;
+use def_wire::TimeOr;
 
 // Which packets were heard (RFC 3611, 4.1).
 pub struct LossRle {

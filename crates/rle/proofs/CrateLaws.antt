@@ -11,12 +11,12 @@ use native.Mathlib.Omega.{arith}
 use lib.ListN.{length, take, length-append, length-take}
 use lib.Dec.{ltb, eqb, lit<}
 use borrow.Author.Tests.{lt-ltb, le-ltb, ltb-true, ltb-false}
-use Rattle.base.proofs.Tests.{either, both}
-use Rattle.standard.specs.Chunks.{coversOf, valuesIn}
-use Rattle.standard.specs.Listing.{listFrom}
-use Rattle.standard.specs.Range.{circle}
-use Rattle.old_crate.specs.Sequence.{passes, sequenceOf, movedBy}
-use Rattle.old_crate.specs.Crate.{Try, whileFrom, onesIn, tryAt, triesFrom, crateNumbersFrom}
+use Rattle.laws.proofs.Tests.{either, both}
+use Rattle.def_standard.specs.Chunks.{coversOf, valuesIn}
+use Rattle.def_standard.specs.Listing.{listFrom}
+use Rattle.def_standard.specs.Range.{circle}
+use Rattle.def_crate.specs.Sequence.{passes, sequenceOf, movedBy}
+use Rattle.def_crate.specs.Crate.{Try, whileFrom, onesIn, tryAt, triesFrom, crateNumbersFrom}
 use Rattle.chunk.proofs.ChunkLaws.{length-valuesIn, covers-lt}
 use Rattle.rle.specs.Along.{onward, along}
 use Rattle.rle.specs.Inside.{stepOf}

@@ -8,11 +8,11 @@ use lib.ListN.{length, take, drop, length-take}
 use lib.Seq.{take-all, take-length}
 use lib.Dec.{ltb}
 use borrow.Author.Tests.{ltb-true, ltb-false}
-use Rattle.base.proofs.Tests.{either}
-use Rattle.wire.specs.Bytes.{words16, be16}
-use Rattle.standard.specs.Chunks.{coversOf, valuesIn}
-use Rattle.old_crate.specs.Sequence.{movedBy}
-use Rattle.old_crate.specs.Crate.{crateNumbersFrom}
+use Rattle.laws.proofs.Tests.{either}
+use Rattle.def_wire.specs.Bytes.{words16, be16}
+use Rattle.def_standard.specs.Chunks.{coversOf, valuesIn}
+use Rattle.def_crate.specs.Sequence.{movedBy}
+use Rattle.def_crate.specs.Crate.{crateNumbersFrom}
 use Rattle.utils.proofs.BytesLaws.{pairUp-cons, pairUp-end, length-pairUp}
 use Rattle.rle.specs.Along.{along}
 use Rattle.rle.specs.Inside.{stepOf}

@@ -14,9 +14,9 @@ use lib.Arith.{digits-div}
 use lib.ListN.{take}
 use lib.Seq.{take-all}
 use borrow.Author.Tests.{ltb-true, ltb-false}
-use Rattle.base.proofs.Tests.{either}
-use Rattle.standard.specs.Chunks.{valuesIn, countFrom}
-use Rattle.old_crate.specs.Sequence.{passes, sequenceOf}
+use Rattle.laws.proofs.Tests.{either}
+use Rattle.def_standard.specs.Chunks.{valuesIn, countFrom}
+use Rattle.def_crate.specs.Sequence.{passes, sequenceOf}
 use Rattle.chunk.proofs.ChunkLaws.{values-take-vector, length-valuesIn, covers-vector}
 use Rattle.rle.specs.Along.{onward, along}
 use Rattle.rle.specs.Digits.{Top}

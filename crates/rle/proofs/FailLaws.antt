@@ -11,8 +11,8 @@ use native.Mathlib.Omega.{arith}
 use lib.Dec.{ltb, leb, lit<}
 use lib.Pow.{pow-pos, pow-mono, pow-add, mod-pow-add, shl-shr, shl-exact}
 use borrow.Author.Tests.{lt-ltb, le-ltb, le-leb, lt-leb, ltb-true, ltb-false, leb-true, leb-false}
-use Rattle.base.proofs.Tests.{either}
-use Rattle.old_crate.specs.Sequence.{passes, sequenceOf, doubledOf}
+use Rattle.laws.proofs.Tests.{either}
+use Rattle.def_crate.specs.Sequence.{passes, sequenceOf, doubledOf}
 use Rattle.rle.specs.Inside.{ceilDiv}
 use Rattle.rle.specs.Failing.{gapOf, againOf, never, firstFail}
 use Rattle.rle.proofs.InsideLaws.{ceil-test, ceil-le, ceil-below, ceil-above}

@@ -7,9 +7,9 @@ use native.Mathlib.Omega.{arith}
 use lib.Dec.{ltb}
 use lib.Pow.{pow-pos}
 use borrow.Author.Tests.{ltb-true, ltb-false, lt-ltb, le-ltb}
-use Rattle.base.proofs.Tests.{either}
-use Rattle.standard.specs.declared.Range.{Range}
-use Rattle.standard.specs.Range.{inside, offsetOf}
+use Rattle.laws.proofs.Tests.{either}
+use Rattle.def_standard.specs.declared.Range.{Range}
+use Rattle.def_standard.specs.Range.{inside, offsetOf}
 use Rattle.rle.specs.Inside.{ceilDiv, insideCount}
 
 -- p times m is below a exactly where p is below a / m rounded up

@@ -7,8 +7,8 @@ use native.Mathlib.Nat.{add-zero}
 use native.Mathlib.Omega.{arith}
 use lib.ListN.{length, replicate}
 use lib.Dec.{eqb}
-use Rattle.base.proofs.Tests.{both, either}
-use Rattle.standard.specs.Listing.{listFrom}
+use Rattle.laws.proofs.Tests.{both, either}
+use Rattle.def_standard.specs.Listing.{listFrom}
 use Rattle.rle.specs.Along.{onward, progression, past, along}
 
 -- x in front of either side of a choice

@@ -9,8 +9,8 @@ use native.Mathlib.Omega.{arith}
 use lib.Dec.{ltb, eqb, lit<}
 use lib.Pow.{pow-pos}
 use borrow.Author.Tests.{lt-ltb, le-ltb, lt-leb, ltb-true, ltb-false, eqb-true, eqb-false}
-use Rattle.base.proofs.Tests.{either, true≢false}
-use Rattle.old_crate.specs.Sequence.{passes, sequenceOf, movedBy}
+use Rattle.laws.proofs.Tests.{either, true≢false}
+use Rattle.def_crate.specs.Sequence.{passes, sequenceOf, movedBy}
 use Rattle.rle.specs.Inside.{ceilDiv}
 use Rattle.rle.specs.Failing.{gapOf, againOf, never, firstFail}
 use Rattle.rle.proofs.InsideLaws.{ceil-below, ceil-above, ceil-test}

@@ -13,12 +13,12 @@ use lib.ListN.{length, take, getD, length-take}
 use lib.Seq.{take-nil, drop-cons}
 use lib.Dec.{ltb, eqb}
 use borrow.Author.Tests.{ltb-true, ltb-false}
-use Rattle.base.proofs.Tests.{either, and-false-r, and-true-r}
-use Rattle.standard.specs.declared.Range.{Range}
-use Rattle.standard.specs.Chunks.{coversOf, valuesIn}
-use Rattle.standard.specs.Listing.{listFrom}
-use Rattle.standard.specs.Range.{numberOf, offsetOf, circle}
-use Rattle.standard.specs.Standard.{isListed, valuesOf, numbersFrom}
+use Rattle.laws.proofs.Tests.{either, and-false-r, and-true-r}
+use Rattle.def_standard.specs.declared.Range.{Range}
+use Rattle.def_standard.specs.Chunks.{coversOf, valuesIn}
+use Rattle.def_standard.specs.Listing.{listFrom}
+use Rattle.def_standard.specs.Range.{numberOf, offsetOf, circle}
+use Rattle.def_standard.specs.Standard.{isListed, valuesOf, numbersFrom}
 use Rattle.chunk.proofs.ChunkLaws.{length-valuesIn}
 use Rattle.rle.specs.Along.{onward, along}
 use Rattle.rle.specs.Inside.{insideCount, stepOf, numbersIn, placesFrom, wordNumbers}

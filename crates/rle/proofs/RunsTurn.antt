@@ -8,12 +8,12 @@ use native.Mathlib.Omega.{arith}
 use lib.Dec.{ltb, leb, lit<}
 use lib.ListN.{length, length-append}
 use borrow.Author.Tests.{ltb-true, leb-true}
-use Rattle.base.proofs.Tests.{and-true}
-use Rattle.base.proofs.Stores.{Wrote, and-then, same}
-use Rattle.wire.specs.Bytes.{be16}
+use Rattle.laws.proofs.Tests.{and-true}
+use Rattle.laws.proofs.Stores.{Wrote, and-then, same}
+use Rattle.def_wire.specs.Bytes.{be16}
 use Rattle.chunk.proofs.ChunkLaws.{covers-run}
-use Rattle.standard.specs.Chunks.{coversOf}
-use Rattle.old_crate.specs.Sequence.{movedBy}
+use Rattle.def_standard.specs.Chunks.{coversOf}
+use Rattle.def_crate.specs.Sequence.{movedBy}
 use Rattle.rle.specs.Along.{onward, progression, past}
 use Rattle.rle.specs.Inside.{stepOf}
 use Rattle.rle.specs.Failing.{firstFail, stopAt}

@@ -7,12 +7,12 @@ use mathlib.Core.List.{List, [], _++_}
 use native.Mathlib.Nat.{mod-add-mod, add-mod-mod, mod-eq-of-lt}
 use native.Mathlib.Omega.{arith}
 use lib.ListN.{length, take, drop}
-use Rattle.wire.specs.Bytes.{words16, be16}
-use Rattle.standard.specs.declared.Range.{Range}
-use Rattle.standard.specs.Chunks.{coversOf, valuesIn}
-use Rattle.standard.specs.Range.{numberOf, offsetOf, circle}
-use Rattle.standard.specs.Standard.{numbersFrom}
-use Rattle.old_crate.specs.Sequence.{movedBy}
+use Rattle.def_wire.specs.Bytes.{words16, be16}
+use Rattle.def_standard.specs.declared.Range.{Range}
+use Rattle.def_standard.specs.Chunks.{coversOf, valuesIn}
+use Rattle.def_standard.specs.Range.{numberOf, offsetOf, circle}
+use Rattle.def_standard.specs.Standard.{numbersFrom}
+use Rattle.def_crate.specs.Sequence.{movedBy}
 use Rattle.utils.proofs.BytesLaws.{pairUp-cons, pairUp-end}
 use Rattle.rle.specs.Along.{along}
 use Rattle.rle.specs.Inside.{insideCount, stepOf}

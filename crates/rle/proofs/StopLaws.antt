@@ -6,9 +6,9 @@ use native.Mathlib.Omega.{arith}
 use lib.ListN.{length, drop, drop-of-length-le}
 use lib.Seq.{drop-cons}
 use borrow.Author.Tests.{eq-eqb, ne-eqb}
-use Rattle.base.proofs.Tests.{and-false-r}
-use Rattle.standard.specs.Chunks.{coversOf, valueOf, valuesIn}
-use Rattle.old_crate.specs.Sequence.{passes, sequenceOf, movedBy}
+use Rattle.laws.proofs.Tests.{and-false-r}
+use Rattle.def_standard.specs.Chunks.{coversOf, valueOf, valuesIn}
+use Rattle.def_crate.specs.Sequence.{passes, sequenceOf, movedBy}
 use Rattle.chunk.proofs.ChunkLaws.{length-valuesIn, values-at, value-run, covers-lt}
 use Rattle.rle.specs.Failing.{failsAt, firstFail, never, stopFrom, stopAt}
 use Rattle.rle.proofs.FailLaws.{before-first, at-first}

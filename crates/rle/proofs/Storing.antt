@@ -7,7 +7,7 @@ use native.Mathlib.Numerals.{add-one}
 use native.Mathlib.Omega.{arith}
 use lib.ListN.{length, set, length-set}
 use lib.Seq.{sets}
-use Rattle.base.proofs.Stores.{Wrote}
+use Rattle.laws.proofs.Stores.{Wrote}
 
 pub record Storing (l₀ : List ℕ) (at : ℕ) (whole l rest : List ℕ) (n : ℕ) : Type 0 where
   pub stored : sets l n rest ≡ sets l₀ at whole

@@ -4,7 +4,7 @@ use contract.Lifetimes.{Lfts}
 use borrow.Fn.World.{ArgsD, ResD}
 use borrow.Fn.Kinds.{endedOf}
 use denote.Triple.Clauses.{AtExit}
-use Rattle.base.proofs.Answering.{listed-unique}
+use Rattle.laws.proofs.Answering.{listed-unique}
 use Rattle.rle.proofs.range_of as range-of
 use Rattle.rle.proofs.range_of.Reads as range-of-reads
 use Rattle.rle.proofs.range_of.Kinds as range-of-kinds

@@ -8,8 +8,8 @@ use lib.ListN.{length, take, drop, replicate}
 use lib.Seq.{take-all, drop-cons}
 use lib.Dec.{ltb}
 use borrow.Author.Tests.{le-ltb, ltb-true, ltb-false, ne-eqb}
-use Rattle.base.proofs.Tests.{either}
-use Rattle.standard.specs.Chunks.{coversOf, valueOf, valuesIn}
+use Rattle.laws.proofs.Tests.{either}
+use Rattle.def_standard.specs.Chunks.{coversOf, valueOf, valuesIn}
 use Rattle.chunk.proofs.ChunkLaws.{length-valuesIn, values-run, values-at}
 use Rattle.rle.specs.Along.{onward, progression, along}
 use Rattle.rle.proofs.ListingLaws.{along-ones, along-zeros, length-along}

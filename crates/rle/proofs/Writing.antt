@@ -4,8 +4,8 @@ use mathlib.Core.Path.{_≡_, refl, ap, _∙_}
 use native.Mathlib.Omega.{arith}
 use mathlib.Core.List.{List, [], _++_}
 use lib.ListN.{length, drop, length-append}
-use Rattle.base.proofs.Filling.{Filling, moved, puts, done}
-use Rattle.base.proofs.Stores.{Wrote}
+use Rattle.laws.proofs.Filling.{Filling, moved, puts, done}
+use Rattle.laws.proofs.Stores.{Wrote}
 
 module _ {whole out₀ out out′ xs rest rest′ : List ℕ} {n n′ : ℕ} where
   -- the next ones were stored

@@ -8,7 +8,7 @@ use mathlib.Core.Path.{_≡_}
 use mathlib.Core.List.{List, [], _∷_, _++_}
 use lib.ListN.{length, drop}
 use lib.Dec.{eqb}
-use Rattle.standard.specs.Range.{circle}
+use Rattle.def_standard.specs.Range.{circle}
 
 -- the number one step on
 abbrev pub onward : ℕ → ℕ → ℕ

@@ -5,9 +5,9 @@ use Prim.Native.Nat.{ℕ, suc, _+_, _*_, _-_, _%_, _^_}
 use mathlib.Core.Bool.{Bool, cond, not, _&&_}
 use mathlib.Core.List.{List, [], _∷_}
 use lib.Dec.{ltb, eqb}
-use Rattle.standard.specs.Chunks.{coversOf, valuesIn}
-use Rattle.standard.specs.Range.{circle}
-use Rattle.old_crate.specs.Sequence.{passes, sequenceOf}
+use Rattle.def_standard.specs.Chunks.{coversOf, valuesIn}
+use Rattle.def_standard.specs.Range.{circle}
+use Rattle.def_crate.specs.Sequence.{passes, sequenceOf}
 use Rattle.rle.specs.Inside.{ceilDiv}
 
 -- how far end lies beyond the start: 1 .. 65,536

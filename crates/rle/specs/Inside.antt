@@ -6,11 +6,11 @@
 use Prim.Native.Nat.{ℕ, _+_, _-_, _/_, _%_, _^_}
 use mathlib.Core.List.{List}
 use lib.ListN.{drop}
-use Rattle.standard.specs.declared.Range.{Range}
-use Rattle.standard.specs.Chunks.{valuesIn}
-use Rattle.standard.specs.Listing.{listFrom}
-use Rattle.standard.specs.Range.{numberOf, circle}
-use Rattle.standard.specs.Standard.{isListed}
+use Rattle.def_standard.specs.declared.Range.{Range}
+use Rattle.def_standard.specs.Chunks.{valuesIn}
+use Rattle.def_standard.specs.Listing.{listFrom}
+use Rattle.def_standard.specs.Range.{numberOf, circle}
+use Rattle.def_standard.specs.Standard.{isListed}
 
 unfoldable pub ceilDiv : ℕ → ℕ → ℕ
 ceilDiv a m = (a + (m - 1)) / m

@@ -5,9 +5,9 @@ use Prim.Native.Nat.{ℕ, _≤_, _<_}
 use mathlib.Core.Path.{_≡_}
 use mathlib.Core.List.{List, _++_}
 use lib.ListN.{length, drop}
-use Rattle.base.proofs.Stores.{Wrote}
-use Rattle.wire.specs.Bytes.{words16}
-use Rattle.old_crate.specs.Crate.{crateNumbersFrom}
+use Rattle.laws.proofs.Stores.{Wrote}
+use Rattle.def_wire.specs.Bytes.{words16}
+use Rattle.def_crate.specs.Crate.{crateNumbersFrom}
 use Rattle.rle.specs.Failing.{firstFail}
 
 abbrev pub here : ℕ → ℕ → List ℕ → ℕ → ℕ → List ℕ

@@ -4,14 +4,14 @@ ghost use Prim.Native.Nat.{_+_, _-_, _%_, _≤_};
 ghost use mathlib.Core.Bool.{_&&_};
 ghost use lib.Dec.{leb, ltb};
 ghost use lib.ListN.{length};
-ghost use Rattle.wire.specs.Bytes.{words16};
-ghost use Rattle.standard.specs.Standard.{numbersOf};
-ghost use Rattle.old_crate.specs.Crate.{crateNumbersFrom};
+ghost use Rattle.def_wire.specs.Bytes.{words16};
+ghost use Rattle.def_standard.specs.Standard.{numbersOf};
+ghost use Rattle.def_crate.specs.Crate.{crateNumbersFrom};
 ghost use Rattle.rle.specs.Along.{Filled};
 ghost use Rattle.rle.specs.Inside.{stepOf};
 ghost use Rattle.rle.specs.Failing.{mostOf, firstFail};
 ghost use Rattle.rle.specs.Runs.{here, Ran};
-use standard::Range;
+use def_standard::Range;
 
 // Lists the numbers into a slice that has room for them. Port of: rle.rs RleSequenceIter::next; differs: the standard reading.
 pub(crate) fn list_standard(bytes: &[u8], g: Range, out: &mut [u16]) -> usize

@@ -4,13 +4,13 @@ ghost use Prim.Native.Nat.{_+_, _*_, _-_, _/_, _%_, _^_, min, _≤_, _<_};
 ghost use mathlib.Core.Bool.{cond};
 ghost use lib.Dec.{ltb};
 ghost use lib.ListN.{length, take};
-ghost use Rattle.standard.specs.Chunks.{coversOf, valueOf, valuesIn};
-ghost use Rattle.base.proofs.Stores.{Wrote};
+ghost use Rattle.def_standard.specs.Chunks.{coversOf, valueOf, valuesIn};
+ghost use Rattle.laws.proofs.Stores.{Wrote};
 ghost use Rattle.rle.specs.Along.{progression, past, along};
 ghost use Rattle.rle.specs.Inside.{ceilDiv};
 ghost use Rattle.rle.specs.Failing.{firstFail, stopAt};
 ghost use Rattle.rle.specs.Digits.{Top};
-ghost use Rattle.old_crate.specs.Sequence.{movedBy};
+ghost use Rattle.def_crate.specs.Sequence.{movedBy};
 
 pub(crate) fn least(a: usize, b: usize) -> usize
     ensures { λ r. ⌜ r ≡ min a b ⌝ }

@@ -14,7 +14,7 @@ use lib.Arith.{mod-mul}
 use native.Mathlib.Omega.{arith}
 use lib.ListN.{length, getD, take, drop, length-drop, List·getD-eq-default}
 use lib.Seq.{drop-cons, getD-take, getD-drop, getD-append-add}
-use Rattle.wire.specs.Bytes.{byteAt, be16, be32, be64, pairUp, words16, words32, two, four, eight}
+use Rattle.def_wire.specs.Bytes.{byteAt, be16, be32, be64, pairUp, words16, words32, two, four, eight}
 
 -- ---- numbers
 

@@ -7,8 +7,8 @@ use native.Mathlib.Omega.{arith}
 use lib.Dec.{ltb}
 use lib.Pow.{pow-add, pow-pos, low, mod-mod-pow}
 use borrow.Author.Tests.{lt-ltb, le-ltb, le-leb, lt-leb}
-use Rattle.old_crate.specs.declared.Tried.the-variants.{Passes, Fails}
-use Rattle.old_crate.specs.Sequence.{doubledOf, sequenceOf, passes, offsetSequence}
+use Rattle.def_crate.specs.declared.Tried.the-variants.{Passes, Fails}
+use Rattle.def_crate.specs.Sequence.{doubledOf, sequenceOf, passes, offsetSequence}
 
 -- ---- doublings
 

@@ -5,8 +5,8 @@ use mathlib.Core.List.{List, [], _∷_, _++_}
 use native.Mathlib.Omega.{arith}
 use lib.ListN.{length, set, length-set}
 use lib.Seq.{sets, set-out}
-use Rattle.base.proofs.Stores.{sets-append}
-use Rattle.wire.specs.Bytes.{two, four, eight}
+use Rattle.laws.proofs.Stores.{sets-append}
+use Rattle.def_wire.specs.Bytes.{two, four, eight}
 
 -- stores past the end do nothing
 pub sets-out : {A : Type 0} (l : List A) (i : ℕ) (vs : List A) → length l ≤ i → sets l i vs ≡ l

@@ -5,20 +5,20 @@ use mathlib.Core.List.{List}
 use lib.Dec.{eqb}
 use lib.ListN.{length}
 use borrow.Author.Tests.{eq-eqb, ne-eqb}
-use Rattle.refusals.specs.declared.Refusal.{Refusal}
-use Rattle.refusals.specs.declared.Answer.{Answer}
-use Rattle.refusals.specs.Answers.{Or, refused, Listed}
-use Rattle.base.proofs.Answering.{turned-away}
-use Rattle.wire.specs.declared.Reading.{Reading}
-use Rattle.wire.specs.declared.Reading.the-variants.{Standard, Crate}
-use Rattle.standard.specs.declared.Chunk.{Chunk}
-use Rattle.standard.specs.declared.Chunk.the-variants.{Null, Skip, Run, Vector}
-use Rattle.standard.specs.declared.Receipt.{Receipt}
-use Rattle.standard.specs.declared.Echo.{Echo}
-use Rattle.readings.specs.Questions.{ListedPairs, ListedEntries}
-use Rattle.cursors.specs.declared.Cursor.{Cursor}
-use Rattle.cursors.specs.declared.Advanced.{Advanced}
-use Rattle.cursors.specs.Cursor.{StretchedIn}
+use Rattle.def_refusals.specs.declared.Refusal.{Refusal}
+use Rattle.def_refusals.specs.declared.Answer.{Answer}
+use Rattle.def_refusals.specs.Answers.{Or, refused, Listed}
+use Rattle.laws.proofs.Answering.{turned-away}
+use Rattle.def_wire.specs.declared.Reading.{Reading}
+use Rattle.def_wire.specs.declared.Reading.the-variants.{Standard, Crate}
+use Rattle.def_standard.specs.declared.Chunk.{Chunk}
+use Rattle.def_standard.specs.declared.Chunk.the-variants.{Null, Skip, Run, Vector}
+use Rattle.def_standard.specs.declared.Receipt.{Receipt}
+use Rattle.def_standard.specs.declared.Echo.{Echo}
+use Rattle.def_questions.specs.Questions.{ListedPairs, ListedEntries}
+use Rattle.def_cursor.specs.declared.Cursor.{Cursor}
+use Rattle.def_cursor.specs.declared.Advanced.{Advanced}
+use Rattle.def_cursor.specs.Cursor.{StretchedIn}
 use Rattle.xport.specs.declared.Flat.{Flat}
 use Rattle.xport.specs.declared.FlatStretch.{FlatStretch}
 use Rattle.xport.specs.Flat.{readingOf, kindOf, flatRefusal, flatOf, flatStretch, FlatListed, FlatPairs, FlatEntries, FlatStretched}

@@ -8,32 +8,32 @@ use mathlib.Core.Path.{_≡_}
 use mathlib.Core.List.{List}
 use lib.ListN.{length}
 use lib.Dec.{eqb}
-use Rattle.refusals.specs.declared.Refusal.{Refusal}
-use Rattle.refusals.specs.declared.Numbered.{Numbered}
-use Rattle.refusals.specs.declared.Answer.{Answer}
-use Rattle.refusals.specs.declared.Answer.the-variants.{Done, Refused}
-use Rattle.refusals.specs.Numbers.{numbered}
-use Rattle.refusals.specs.Answers.{Or, each, answerOf, filledOf}
-use Rattle.wire.specs.declared.Reading.{Reading}
-use Rattle.wire.specs.declared.Reading.the-variants.{Standard, Crate}
-use Rattle.wire.specs.declared.Located.{Located}
-use Rattle.wire.specs.declared.Located.the-variants.{At, Missing}
-use Rattle.wire.specs.declared.Fields.{Fields}
-use Rattle.wire.specs.declared.FieldsOr.{FieldsOr}
-use Rattle.wire.specs.declared.FieldsOr.the-variants.{Shown, NoneOf}
-use Rattle.wire.specs.declared.TimeOr.{TimeOr}
-use Rattle.wire.specs.declared.TimeOr.the-variants.{Time, NoTime}
-use Rattle.standard.specs.declared.Chunk.{Chunk}
-use Rattle.standard.specs.declared.Chunk.the-variants.{Null, Skip, Run, Vector}
-use Rattle.standard.specs.declared.Receipt.{Receipt}
-use Rattle.standard.specs.declared.Echo.{Echo}
-use Rattle.readings.specs.Questions.{least3}
-use Rattle.wire.specs.Packet.{viewOf}
-use Rattle.cursors.specs.declared.Cursor.{Cursor}
-use Rattle.cursors.specs.declared.Stretch.{Stretch}
-use Rattle.cursors.specs.declared.Advanced.{Advanced}
-use Rattle.cursors.specs.declared.Advanced.the-variants.{Moved, Stuck}
-use Rattle.cursors.specs.Cursor.{start, advanceOf, stretchFilled, onViewAdvanced, onViewFilled}
+use Rattle.def_refusals.specs.declared.Refusal.{Refusal}
+use Rattle.def_refusals.specs.declared.Numbered.{Numbered}
+use Rattle.def_refusals.specs.declared.Answer.{Answer}
+use Rattle.def_refusals.specs.declared.Answer.the-variants.{Done, Refused}
+use Rattle.def_refusals.specs.Numbers.{numbered}
+use Rattle.def_refusals.specs.Answers.{Or, each, answerOf, filledOf}
+use Rattle.def_wire.specs.declared.Reading.{Reading}
+use Rattle.def_wire.specs.declared.Reading.the-variants.{Standard, Crate}
+use Rattle.def_wire.specs.declared.Located.{Located}
+use Rattle.def_wire.specs.declared.Located.the-variants.{At, Missing}
+use Rattle.def_wire.specs.declared.Fields.{Fields}
+use Rattle.def_wire.specs.declared.FieldsOr.{FieldsOr}
+use Rattle.def_wire.specs.declared.FieldsOr.the-variants.{Shown, NoneOf}
+use Rattle.def_wire.specs.declared.TimeOr.{TimeOr}
+use Rattle.def_wire.specs.declared.TimeOr.the-variants.{Time, NoTime}
+use Rattle.def_standard.specs.declared.Chunk.{Chunk}
+use Rattle.def_standard.specs.declared.Chunk.the-variants.{Null, Skip, Run, Vector}
+use Rattle.def_standard.specs.declared.Receipt.{Receipt}
+use Rattle.def_standard.specs.declared.Echo.{Echo}
+use Rattle.def_questions.specs.Questions.{least3}
+use Rattle.def_wire.specs.Packet.{viewOf}
+use Rattle.def_cursor.specs.declared.Cursor.{Cursor}
+use Rattle.def_cursor.specs.declared.Stretch.{Stretch}
+use Rattle.def_cursor.specs.declared.Advanced.{Advanced}
+use Rattle.def_cursor.specs.declared.Advanced.the-variants.{Moved, Stuck}
+use Rattle.def_cursor.specs.Cursor.{start, advanceOf, stretchFilled, onViewAdvanced, onViewFilled}
 use Rattle.xport.specs.declared.Flat.{Flat}
 use Rattle.xport.specs.declared.FlatStretch.{FlatStretch}
 use Rattle.xport.specs.declared.FlatFields.{FlatFields}

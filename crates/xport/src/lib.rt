@@ -1,23 +1,23 @@
 // The reading questions, for Rust and C: each takes numbers and slices and answers numbers. A slice is a pointer and a length.
 // A reading is a number: 0 the standard, anything else the crate's. A packet's blocks are counted from 0.
 ghost use mathlib.Core.Path.{_≡_};
-ghost use Rattle.refusals.specs.Answers.{Listed};
-ghost use Rattle.wire.specs.Packet.{countOf, locate};
-ghost use Rattle.standard.specs.Chunks.{wordBytes};
-ghost use Rattle.cursors.specs.Cursor.{cursor as here};
-ghost use Rattle.readings.specs.Questions.{numbersShown};
-ghost use Rattle.readings.specs.Packets.{fieldsAsked, timeAsked, numbersAsked, wordsAsked, pairsAsked, entriesAsked};
+ghost use Rattle.def_refusals.specs.Answers.{Listed};
+ghost use Rattle.def_wire.specs.Packet.{countOf, locate};
+ghost use Rattle.def_standard.specs.Chunks.{wordBytes};
+ghost use Rattle.def_cursor.specs.Cursor.{cursor as here};
+ghost use Rattle.def_questions.specs.Questions.{numbersShown};
+ghost use Rattle.def_questions.specs.Packets.{fieldsAsked, timeAsked, numbersAsked, wordsAsked, pairsAsked, entriesAsked};
 ghost use Rattle.xport.specs.Flat.{readingOf, flatRefusal, flatOf, flatLocated, flatFields, flatTime, flatStretch, kindOf, FlatListed, FlatPairs, FlatEntries, FlatStretched};
-use cursors::Advanced;
-use cursors::Cursor;
-use refusals::Answer;
-use refusals::Refusal;
-use standard::Chunk;
-use wire::FieldsOr;
-use wire::Located;
-use wire::LongTime;
-use wire::Reading;
-use wire::TimeOr;
+use def_cursor::Advanced;
+use def_cursor::Cursor;
+use def_refusals::Answer;
+use def_refusals::Refusal;
+use def_standard::Chunk;
+use def_wire::FieldsOr;
+use def_wire::Located;
+use def_wire::LongTime;
+use def_wire::Reading;
+use def_wire::TimeOr;
 
 // Code 0 and what was found; or document 01's number of the refusal and its two values.
 #[repr(C)]
@@ -80,7 +80,7 @@ fn kind(k: u8, value: u32) -> Chunk
 fn refusal(x: Refusal) -> Flat
     ensures { λ a. ⌜ a ≡ flatRefusal x ⌝ }
 {
-    let n = numbering::number(x);
+    let n = refusal_number::number(x);
     Flat {
         code: n.number as u32,
         first: n.first as u64,

@@ -7,15 +7,15 @@ use native.Mathlib.Omega.{arith}
 use lib.ListN.{length, getD}
 use lib.Dec.{ltb, leb, eqb}
 use borrow.Author.Tests.{lt-ltb, le-ltb, eq-eqb, ne-eqb, ltb-false, eqb-true, not-false}
-use Rattle.base.proofs.Tests.{by-test, true≢false}
-use Rattle.refusals.specs.declared.Refusal.{Refusal}
-use Rattle.refusals.specs.declared.Refusal.the-variants.{TooShort, WrongVersion, WrongPacketType, WrongLength, BadPadding}
-use Rattle.refusals.specs.declared.Answer.{Answer}
-use Rattle.refusals.specs.declared.Answer.the-variants.{Done, Refused}
-use Rattle.wire.specs.declared.Reading.{Reading}
-use Rattle.wire.specs.declared.Reading.the-variants.{Standard, Crate}
-use Rattle.wire.specs.Bytes.{byteAt}
-use Rattle.wire.specs.Packet.{versionOf, isPadded, announcedOf, paddingOf, isBadPadding, leastOf, stopOf, headerOf}
+use Rattle.laws.proofs.Tests.{by-test, true≢false}
+use Rattle.def_refusals.specs.declared.Refusal.{Refusal}
+use Rattle.def_refusals.specs.declared.Refusal.the-variants.{TooShort, WrongVersion, WrongPacketType, WrongLength, BadPadding}
+use Rattle.def_refusals.specs.declared.Answer.{Answer}
+use Rattle.def_refusals.specs.declared.Answer.the-variants.{Done, Refused}
+use Rattle.def_wire.specs.declared.Reading.{Reading}
+use Rattle.def_wire.specs.declared.Reading.the-variants.{Standard, Crate}
+use Rattle.def_wire.specs.Bytes.{byteAt}
+use Rattle.def_wire.specs.Packet.{versionOf, isPadded, announcedOf, paddingOf, isBadPadding, leastOf, stopOf, headerOf}
 
 -- a packet has at least 8 bytes in either reading
 pub least-ge : (r : Reading) → 8 ≤ leastOf r

@@ -9,16 +9,16 @@ use native.Mathlib.Omega.{arith}
 use lib.ListN.{length, take, drop}
 use lib.Dec.{ltb, leb, eqb}
 use borrow.Author.Tests.{lt-ltb, le-ltb, le-leb, lt-leb, eq-eqb, ne-eqb, ltb-true, ltb-false, leb-true, leb-false, eqb-true, eqb-false}
-use Rattle.base.proofs.Tests.{by-test, either, and-true}
-use Rattle.refusals.specs.declared.Refusal.{Refusal}
-use Rattle.refusals.specs.declared.Refusal.the-variants.{WrongLength, BlockTooLong, NoBlock}
-use Rattle.refusals.specs.declared.Answer.{Answer}
-use Rattle.refusals.specs.declared.Answer.the-variants.{Done, Refused}
-use Rattle.wire.specs.declared.Reading.{Reading}
-use Rattle.wire.specs.declared.Reading.the-variants.{Standard, Crate}
-use Rattle.wire.specs.declared.Located.{Located}
-use Rattle.wire.specs.declared.Located.the-variants.{At, Missing}
-use Rattle.wire.specs.Packet.{headerOf, lengthAt, placeOf, walkFrom, walkTo, countOf, sizeAt, pickBlock, locate}
+use Rattle.laws.proofs.Tests.{by-test, either, and-true}
+use Rattle.def_refusals.specs.declared.Refusal.{Refusal}
+use Rattle.def_refusals.specs.declared.Refusal.the-variants.{WrongLength, BlockTooLong, NoBlock}
+use Rattle.def_refusals.specs.declared.Answer.{Answer}
+use Rattle.def_refusals.specs.declared.Answer.the-variants.{Done, Refused}
+use Rattle.def_wire.specs.declared.Reading.{Reading}
+use Rattle.def_wire.specs.declared.Reading.the-variants.{Standard, Crate}
+use Rattle.def_wire.specs.declared.Located.{Located}
+use Rattle.def_wire.specs.declared.Located.the-variants.{At, Missing}
+use Rattle.def_wire.specs.Packet.{headerOf, lengthAt, placeOf, walkFrom, walkTo, countOf, sizeAt, pickBlock, locate}
 use Rattle.xr.specs.Parts.{isEnd, found, partAt, bytesAt}
 use Rattle.xr.proofs.HeaderLaws.{Fine, header-fine}
 

@@ -6,12 +6,12 @@ use native.Mathlib.Omega.{arith}
 use lib.ListN.{length}
 use lib.Dec.{ltb}
 use borrow.Author.Tests.{ltb-true, ltb-false}
-use Rattle.base.proofs.Tests.{either}
-use Rattle.refusals.specs.declared.Refusal.{Refusal}
-use Rattle.refusals.specs.declared.Refusal.the-variants.{BlockTooLong}
-use Rattle.refusals.specs.declared.Answer.{Answer}
-use Rattle.refusals.specs.declared.Answer.the-variants.{Done, Refused}
-use Rattle.wire.specs.Packet.{lengthAt, placeOf, walkFrom}
+use Rattle.laws.proofs.Tests.{either}
+use Rattle.def_refusals.specs.declared.Refusal.{Refusal}
+use Rattle.def_refusals.specs.declared.Refusal.the-variants.{BlockTooLong}
+use Rattle.def_refusals.specs.declared.Answer.{Answer}
+use Rattle.def_refusals.specs.declared.Answer.the-variants.{Done, Refused}
+use Rattle.def_wire.specs.Packet.{lengthAt, placeOf, walkFrom}
 use Rattle.xr.specs.Parts.{Walking, Reach, Walk}
 use Rattle.xr.proofs.WalkLaws.{walk-end, walk-next, walk-cut, place-next, place-zero, done-eq, no}
 

@@ -3,13 +3,13 @@
 ghost use mathlib.Core.Path.{_≡_};
 ghost use Prim.Native.Nat.{_+_, _*_, _-_, _%_, _≤_, _<_};
 ghost use lib.ListN.{length, getD};
-ghost use Rattle.wire.specs.Packet.{leastOf, isBadPadding, isPadded, paddingOf, headerOf, lengthAt, placeOf, walkFrom, countOf, sizeAt, locate};
-ghost use Rattle.wire.specs.Block.{headerData};
+ghost use Rattle.def_wire.specs.Packet.{leastOf, isBadPadding, isPadded, paddingOf, headerOf, lengthAt, placeOf, walkFrom, countOf, sizeAt, locate};
+ghost use Rattle.def_wire.specs.Block.{headerData};
 ghost use Rattle.xr.specs.Parts.{Walking, Reach, Walk, parsedOf, isEnd, found, partAt, bytesAt};
-use refusals::Answer;
-use refusals::Refusal;
-use wire::Located;
-use wire::Reading;
+use def_refusals::Answer;
+use def_refusals::Refusal;
+use def_wire::Located;
+use def_wire::Reading;
 
 // An accepted packet: how many blocks it has, and who sent it.
 pub struct Xr {

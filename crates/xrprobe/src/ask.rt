@@ -3,15 +3,15 @@ ghost use Prim.Native.Nat.{_≤_, _<_};
 ghost use mathlib.Core.Path.{_≡_};
 ghost use lib.ListN.{length};
 use crate::lent;
-use cursors::Advanced;
-use cursors::Cursor;
-use refusals::Answer;
-use refusals::Refusal;
-use standard::Chunk;
-use wire::FieldsOr;
-use wire::Located;
-use wire::Reading;
-use wire::TimeOr;
+use def_cursor::Advanced;
+use def_cursor::Cursor;
+use def_refusals::Answer;
+use def_refusals::Refusal;
+use def_standard::Chunk;
+use def_wire::FieldsOr;
+use def_wire::Located;
+use def_wire::Reading;
+use def_wire::TimeOr;
 use xr::Parsed;
 
 // What waits in the buffer, and whether the request was one that is served.
@@ -69,7 +69,7 @@ fn lesser(a: usize, b: usize) -> usize
 
 // `refused N A B`.
 fn refused(buf: &mut [u8], at: usize, x: Refusal) -> usize {
-    let row = numbering::number(x);
+    let row = refusal_number::number(x);
     let n = print::labelled(buf, at, b"refused", row.number as u64);
     let m = print::number(buf, n, row.first as u64);
     let o = print::number(buf, m, row.second as u64);

@@ -1,5 +1,5 @@
 use Rattle.block.proofs.BlockLaws.{fields-shown, fields-cut, fields-unfit}
-use Rattle.wire.specs.declared.FieldsOr.the-variants.{Shown}
+use Rattle.def_wire.specs.declared.FieldsOr.the-variants.{Shown}
 use mathlib.Core.Path.{_≡_, refl, sym, ap, _∙_}
 use borrow.Author.Needs.{needs}
 use Rattle.block.proofs.fields.Statement.{statement}

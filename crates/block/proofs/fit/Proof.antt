@@ -1,5 +1,5 @@
 use Rattle.block.proofs.BlockLaws.{fitness-standard, fitness-crate}
-use Rattle.wire.specs.Block.{crateRule}
+use Rattle.def_wire.specs.Block.{crateRule}
 use lib.ListN.{length}
 use Prim.Native.Nat.{ℕ}
 use mathlib.Core.Path.{_≡_, refl, sym, ap, _∙_}

@@ -3,7 +3,7 @@ use mathlib.Core.Path.{sym, ap, _∙_}
 use native.Mathlib.Omega.{arith}
 use borrow.Author.Needs.{needs}
 use Rattle.chunk.proofs.ChunkLaws.{chunk-null, chunk-skip, chunk-run, chunk-vector}
-use Rattle.standard.specs.declared.Chunk.the-variants.{Skip, Run, Vector}
+use Rattle.def_standard.specs.declared.Chunk.the-variants.{Skip, Run, Vector}
 use Rattle.chunk.proofs.chunk_of.Statement.{statement}
 use Rattle.chunk.proofs.chunk_of.Tie as tie
 

@@ -2,8 +2,8 @@
 use mathlib.Core.Path.{sym, ap, _∙_}
 use borrow.Author.Needs.{needs}
 use Rattle.chunk.proofs.ChunkLaws.{word-null, word-skip, word-run, word-vector, word-skip-over, word-run-over, word-vector-over}
-use Rattle.standard.specs.Chunks.{wordOf}
-use Rattle.standard.specs.declared.MadeWord.the-variants.{Word}
+use Rattle.def_standard.specs.Chunks.{wordOf}
+use Rattle.def_standard.specs.declared.MadeWord.the-variants.{Word}
 use Rattle.chunk.proofs.word_of.Statement.{statement}
 use Rattle.chunk.proofs.word_of.Tie as tie
 

@@ -3,9 +3,9 @@ use mathlib.Core.Path.{refl, sym, ap, _∙_}
 use native.Mathlib.Omega.{arith}
 use lib.Seq.{sets-eq}
 use borrow.Author.Needs.{needs}
-use Rattle.base.proofs.Answering.{listed, full, turned-away}
-use Rattle.standard.specs.Chunks.{wordBytes, bytesOfMade}
-use Rattle.wire.specs.Bytes.{two}
+use Rattle.laws.proofs.Answering.{listed, full, turned-away}
+use Rattle.def_standard.specs.Chunks.{wordBytes, bytesOfMade}
+use Rattle.def_wire.specs.Bytes.{two}
 use Rattle.chunk.proofs.write_chunk.Statement.{statement}
 use Rattle.chunk.proofs.write_chunk.Tie as tie
 

@@ -1,6 +1,6 @@
 use Rattle.cursor.proofs.AdvanceLaws.{range-fits, words-behind, stretched-fit, stretched-unfit}
-use Rattle.standard.specs.Range.{rangeOf}
-use Rattle.wire.specs.Block.{fieldsAt}
+use Rattle.def_standard.specs.Range.{rangeOf}
+use Rattle.def_wire.specs.Block.{fieldsAt}
 use mathlib.Core.Path.{_≡_, sym, ap, _∙_}
 use borrow.Author.Needs.{needs}
 use Rattle.cursor.proofs.advance.Statement.{statement}

@@ -1,6 +1,6 @@
 use Rattle.cursor.proofs.AdvanceLaws.{stretched-at, stretched-missing}
 use Rattle.xr.proofs.WalkLaws.{located-within}
-use Rattle.wire.specs.declared.Reading.the-variants.{Standard}
+use Rattle.def_wire.specs.declared.Reading.the-variants.{Standard}
 use mathlib.Core.Path.{sym, _∙_}
 use native.Mathlib.Omega.{arith}
 use borrow.Author.Needs.{needs}

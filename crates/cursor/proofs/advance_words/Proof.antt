@@ -1,6 +1,6 @@
 use Rattle.cursor.proofs.AdvanceLaws.{advancing-illegal, advancing-full, advancing-gone}
-use Rattle.cursors.specs.Cursor.{legal}
-use Rattle.wire.specs.Bytes.{words16}
+use Rattle.def_cursor.specs.Cursor.{legal}
+use Rattle.def_wire.specs.Bytes.{words16}
 use native.Mathlib.Omega.{arith}
 use borrow.Author.Tests.{not-true, not-false}
 use mathlib.Core.Bool.{true}

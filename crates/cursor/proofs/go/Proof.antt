@@ -3,16 +3,16 @@ use Rattle.cursor.proofs.GoTurn.{Going, begin-going, going-on, going-li
 use Rattle.cursor.proofs.StepsLaws.{listed-le}
 use Rattle.cursor.proofs.LegalLaws.{legal-position, legal-place}
 use Rattle.cursor.specs.Steps.{placesIn, movedIn}
-use Rattle.cursors.specs.Cursor.{stepsIn, wordAt, listedBy}
-use Rattle.cursors.specs.declared.Cursor.{Cursor}
+use Rattle.def_cursor.specs.Cursor.{stepsIn, wordAt, listedBy}
+use Rattle.def_cursor.specs.declared.Cursor.{Cursor}
 use Rattle.rle.proofs.Writing.{wrote}
 use Rattle.rle.specs.Inside.{insideCount, stepOf}
 use Rattle.rle.specs.Along.{along}
-use Rattle.base.proofs.Stores.{Wrote}
-use Rattle.base.proofs.Filling.{Filling, start, room-for}
+use Rattle.laws.proofs.Stores.{Wrote}
+use Rattle.laws.proofs.Filling.{Filling, start, room-for}
 use Rattle.utils.proofs.BytesLaws.{length-pairUp}
-use Rattle.standard.specs.Range.{numberOf}
-use Rattle.wire.specs.Bytes.{words16}
+use Rattle.def_standard.specs.Range.{numberOf}
+use Rattle.def_wire.specs.Bytes.{words16}
 use lib.ListN.{length}
 use borrow.Author.Needs.{needs}
 use native.Mathlib.Omega.{arith}

@@ -1,6 +1,6 @@
 use Rattle.cursor.proofs.LegalLaws.{illegal-position, legal-at-word, legal-at-end, illegal-word}
 use Rattle.utils.proofs.BytesLaws.{length-pairUp}
-use Rattle.wire.specs.Bytes.{words16}
+use Rattle.def_wire.specs.Bytes.{words16}
 use lib.ListN.{length}
 use Prim.Native.Nat.{_<_}
 use mathlib.Core.Path.{_≡_, sym, _∙_}

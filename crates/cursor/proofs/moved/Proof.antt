@@ -1,6 +1,6 @@
 use Rattle.cursor.proofs.WithinLaws.{moved-inner, moved-last}
 use Rattle.cursor.proofs.LegalLaws.{steps-le}
-use Rattle.cursors.specs.Cursor.{stepsIn}
+use Rattle.def_cursor.specs.Cursor.{stepsIn}
 use Prim.Native.Nat.{_+_, _<_, _≤_}
 use native.Mathlib.Omega.{arith}
 use borrow.Author.Needs.{needs}

@@ -1,5 +1,5 @@
 use Rattle.cursor.proofs.LegalLaws.{steps-none, steps-some}
-use Rattle.standard.specs.Chunks.{coversOf}
+use Rattle.def_standard.specs.Chunks.{coversOf}
 use Prim.Native.Nat.{_<_}
 use mathlib.Core.Path.{sym, _∙_}
 use native.Mathlib.Omega.{arith}

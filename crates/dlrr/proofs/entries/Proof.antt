@@ -1,5 +1,5 @@
 use Rattle.dlrr.proofs.EntriesLaws.{entries-fine, entries-unfit, entries-listed, entries-full, entries-refused}
-use Rattle.standard.specs.Standard.{entriesOf}
+use Rattle.def_standard.specs.Standard.{entriesOf}
 use native.Mathlib.Omega.{arith}
 use lib.ListN.{length}
 use Prim.Native.Nat.{ℕ, min}

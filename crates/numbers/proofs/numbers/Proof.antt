@@ -1,9 +1,9 @@
-use Rattle.standard.specs.declared.Range.{Range}
-use Rattle.wire.specs.Bytes.{words16}
+use Rattle.def_standard.specs.declared.Range.{Range}
+use Rattle.def_wire.specs.Bytes.{words16}
 use Rattle.numbers.proofs.AskedLaws.{numbers-standard, numbers-crate, numbers-unfit, listed-as}
-use Rattle.base.proofs.Answering.{turned-away}
-use Rattle.standard.specs.Standard.{numbersOf}
-use Rattle.refusals.specs.Answers.{shown}
+use Rattle.laws.proofs.Answering.{turned-away}
+use Rattle.def_standard.specs.Standard.{numbersOf}
+use Rattle.def_refusals.specs.Answers.{shown}
 use native.Mathlib.Omega.{arith}
 use mathlib.Core.Path.{_≡_, refl, sym, ap, _∙_}
 use borrow.Author.Needs.{needs}

@@ -1,5 +1,5 @@
 use Rattle.numbers.proofs.AskedLaws.{words-fine, words-unfit, listed-as}
-use Rattle.base.proofs.Answering.{turned-away}
+use Rattle.laws.proofs.Answering.{turned-away}
 use mathlib.Core.Path.{_≡_, refl, sym, ap, _∙_}
 use borrow.Author.Needs.{needs}
 use Rattle.numbers.proofs.words.Statement.{statement}

@@ -4,11 +4,11 @@ use mathlib.Core.Path.{_≡_, refl, sym, ap, _∙_}
 use mathlib.Core.List.{List}
 use native.Mathlib.Omega.{arith}
 use lib.ListN.{length, drop, length-drop}
-use Rattle.refusals.specs.Answers.{shown}
-use Rattle.wire.specs.Bytes.{words32}
-use Rattle.wire.specs.Block.{fieldsAt}
-use Rattle.standard.specs.Range.{rangeOf, numberOf}
-use Rattle.readings.specs.Questions.{pairsShown}
+use Rattle.def_refusals.specs.Answers.{shown}
+use Rattle.def_wire.specs.Bytes.{words32}
+use Rattle.def_wire.specs.Block.{fieldsAt}
+use Rattle.def_standard.specs.Range.{rangeOf, numberOf}
+use Rattle.def_questions.specs.Questions.{pairsShown}
 use Rattle.utils.proofs.BytesLaws.{length-words32, Bytes, be16-lt}
 use Rattle.rle.specs.Inside.{stepOf}
 use Rattle.rle.specs.Failing.{never}

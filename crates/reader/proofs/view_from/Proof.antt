@@ -36,9 +36,9 @@ use denote.Triple.Table.{entered, cited}
 use denote.Triple.Walked.{says, Stays, stay-none, stay-none-slice, walkOf, goes-none, goes-none-slice, Walks, ends-at, walked, walk-meets}
 use denote.Exit.{yes}
 use denote.Triple.Clauses.{ensured, lasts}
-use Rattle.wire.specs.declared.Reading.{Reading}
-use Rattle.wire.proofs.Reading as S
-use Rattle.wire.proofs.Reading.Laws as S′
+use Rattle.def_wire.specs.declared.Reading.{Reading}
+use Rattle.def_wire.proofs.Reading as S
+use Rattle.def_wire.proofs.Reading.Laws as S′
 use Rattle.reader.specs.Places.{viewFrom, startFrom}
 use Rattle.reader.specs.declared.Reader.{Reader}
 use Rattle.reader.proofs.Held.{row, Stands}

@@ -4,10 +4,10 @@ use mathlib.Core.Path.{_≡_, ap, _∙_}
 use native.Mathlib.Omega.{arith}
 use borrow.Author.Needs.{needs}
 use lib.ListN.{length}
-use Rattle.wire.specs.Bytes.{words16, be16}
-use Rattle.standard.specs.declared.Range.{Range}
-use Rattle.standard.specs.Chunks.{coversOf}
-use Rattle.standard.specs.Standard.{numbersOf}
+use Rattle.def_wire.specs.Bytes.{words16, be16}
+use Rattle.def_standard.specs.declared.Range.{Range}
+use Rattle.def_standard.specs.Chunks.{coversOf}
+use Rattle.def_standard.specs.Standard.{numbersOf}
 use Rattle.rle.specs.Inside.{insideCount}
 use Rattle.rle.proofs.InsideLaws.{inside-count-le}
 use Rattle.rle.proofs.NumbersLaws.{length-numbers}

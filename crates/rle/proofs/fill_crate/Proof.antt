@@ -1,10 +1,10 @@
 -- `rle::fill_crate` meets its contract: the words can list none, or there is room for as many as the words can list, or for as many as were counted; else it is refused. Assumes nothing.
 use Rattle.rle.proofs.CrateTurn.{part, length-part}
 use Rattle.rle.proofs.CrateLaws.{length-crate}
-use Rattle.base.proofs.Answering.{listed, full}
-use Rattle.old_crate.specs.Crate.{crateNumbersFrom}
-use Rattle.wire.specs.Bytes.{words16}
-use Rattle.refusals.specs.Answers.{shown}
+use Rattle.laws.proofs.Answering.{listed, full}
+use Rattle.def_crate.specs.Crate.{crateNumbersFrom}
+use Rattle.def_wire.specs.Bytes.{words16}
+use Rattle.def_refusals.specs.Answers.{shown}
 use lib.ListN.{length, take}
 use mathlib.Core.List.{List, [], _∷_}
 use native.Mathlib.Omega.{arith}

@@ -1,9 +1,9 @@
 -- `rle::fill_standard` meets its contract: there is room for all that are inside, or for as many as were counted; else it is refused. Assumes nothing.
 use Rattle.rle.proofs.NumbersLaws.{length-numbers}
-use Rattle.base.proofs.Answering.{listed, full}
-use Rattle.standard.specs.Standard.{numbersOf}
-use Rattle.wire.specs.Bytes.{words16}
-use Rattle.refusals.specs.Answers.{shown}
+use Rattle.laws.proofs.Answering.{listed, full}
+use Rattle.def_standard.specs.Standard.{numbersOf}
+use Rattle.def_wire.specs.Bytes.{words16}
+use Rattle.def_refusals.specs.Answers.{shown}
 use lib.ListN.{length}
 use Prim.Native.Nat.{_≤_}
 use native.Mathlib.Omega.{arith}

@@ -1,7 +1,7 @@
 -- `rle::fill_words` meets its contract: there is room, or it is refused. Assumes nothing.
-use Rattle.base.proofs.Answering.{listed, full}
-use Rattle.wire.specs.Bytes.{words16}
-use Rattle.refusals.specs.Answers.{shown}
+use Rattle.laws.proofs.Answering.{listed, full}
+use Rattle.def_wire.specs.Bytes.{words16}
+use Rattle.def_refusals.specs.Answers.{shown}
 use native.Mathlib.Omega.{arith}
 use mathlib.Core.Path.{refl}
 use borrow.Author.Needs.{needs}

@@ -1,5 +1,5 @@
 -- `rle::number_at` meets its contract: a doubling in 64 bits, cut to 16, is one in 16. Assumes nothing.
-use Rattle.standard.specs.Range.{numberOf, offsetOf}
+use Rattle.def_standard.specs.Range.{numberOf, offsetOf}
 use lib.Pow.{mod-mod-pow}
 use native.Mathlib.Nat.{add-mod-mod}
 use Prim.Native.Nat.{_*_, _^_}

@@ -1,5 +1,5 @@
 -- `rle::range_of` meets its contract: by the test of begin and end. Assumes nothing.
-use Rattle.standard.specs.Range.{rangeOf}
+use Rattle.def_standard.specs.Range.{rangeOf}
 use borrow.Author.Tests.{eq-eqb, ne-eqb}
 use borrow.Author.Needs.{needs}
 use Rattle.rle.proofs.range_of.Statement.{statement}

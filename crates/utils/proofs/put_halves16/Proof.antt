@@ -4,7 +4,7 @@ use native.Mathlib.Numerals.{add-one}
 use lib.ListN.{length-set}
 use borrow.Author.Needs.{needs}
 use Rattle.utils.proofs.StoresLaws.{sets-out, sets-last}
-use Rattle.wire.specs.Bytes.{two}
+use Rattle.def_wire.specs.Bytes.{two}
 use Rattle.utils.proofs.put_halves16.Statement.{statement}
 use Rattle.utils.proofs.put_halves16.Tie as tie
 

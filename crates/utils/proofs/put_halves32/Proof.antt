@@ -2,7 +2,7 @@
 use mathlib.Core.Path.{sym}
 use borrow.Author.Needs.{needs}
 use Rattle.utils.proofs.StoresLaws.{sets-out, sets-four}
-use Rattle.wire.specs.Bytes.{four}
+use Rattle.def_wire.specs.Bytes.{four}
 use Rattle.utils.proofs.put_halves32.Statement.{statement}
 use Rattle.utils.proofs.put_halves32.Tie as tie
 

@@ -2,7 +2,7 @@
 use mathlib.Core.Path.{sym}
 use borrow.Author.Needs.{needs}
 use Rattle.utils.proofs.StoresLaws.{sets-out, sets-eight}
-use Rattle.wire.specs.Bytes.{eight}
+use Rattle.def_wire.specs.Bytes.{eight}
 use Rattle.utils.proofs.put_halves64.Statement.{statement}
 use Rattle.utils.proofs.put_halves64.Tie as tie
 

@@ -2,7 +2,7 @@
 use mathlib.Core.Path.{_≡_, sym, _∙_}
 use borrow.Author.Needs.{needs}
 use Rattle.utils.proofs.SequenceLaws.{offset-passes, offset-fails}
-use Rattle.old_crate.specs.Sequence.{sequenceOf, passes}
+use Rattle.def_crate.specs.Sequence.{sequenceOf, passes}
 use Rattle.utils.proofs.xr_offset_sequence.Statement.{statement}
 use Rattle.utils.proofs.xr_offset_sequence.Tie as tie
 

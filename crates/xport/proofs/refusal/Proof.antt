@@ -5,7 +5,7 @@ use Rattle.xport.proofs.refusal.Statement.{statement}
 use Rattle.xport.proofs.refusal.Tie as tie
 use Rattle.xport.proofs.refusal.Reads as reads
 use Rattle.xport.proofs.refusal.Lts as lts
-use Rattle.numbering.proofs.number.Reads as number-reads
+use Rattle.refusal_number.proofs.number.Reads as number-reads
 
 -- src/lib.rt:67:9
 number-requires : tie.Need-number-requires

@@ -1,4 +1,4 @@
-use Rattle.standard.specs.Chunks.{wordBytes}
+use Rattle.def_standard.specs.Chunks.{wordBytes}
 use Rattle.xport.proofs.FlatLaws.{flat-listed}
 use mathlib.Core.Path.{ap}
 use borrow.Author.Needs.{needs}

@@ -1,4 +1,4 @@
-use Rattle.wire.specs.Packet.{countOf}
+use Rattle.def_wire.specs.Packet.{countOf}
 use Rattle.xport.specs.Flat.{flatOf}
 use mathlib.Core.Path.{ap, _∙_}
 use borrow.Author.Needs.{needs}

@@ -1,4 +1,4 @@
-use Rattle.readings.specs.Packets.{entriesAsked}
+use Rattle.def_questions.specs.Packets.{entriesAsked}
 use Rattle.xport.proofs.FlatLaws.{flat-entries}
 use mathlib.Core.Path.{ap}
 use borrow.Author.Needs.{needs}

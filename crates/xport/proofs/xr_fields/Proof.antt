@@ -1,4 +1,4 @@
-use Rattle.readings.specs.Packets.{fieldsAsked}
+use Rattle.def_questions.specs.Packets.{fieldsAsked}
 use Rattle.xport.specs.Flat.{flatFields}
 use mathlib.Core.Path.{ap, _∙_}
 use borrow.Author.Needs.{needs}

@@ -1,4 +1,4 @@
-use Rattle.wire.specs.Packet.{locate}
+use Rattle.def_wire.specs.Packet.{locate}
 use Rattle.xport.specs.Flat.{flatLocated}
 use mathlib.Core.Path.{ap, _∙_}
 use borrow.Author.Needs.{needs}

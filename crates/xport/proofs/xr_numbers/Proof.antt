@@ -2,8 +2,8 @@
 use Rattle.xport.proofs.FlatLaws.{flat-listed, flat-turned-away}
 use Rattle.numbers.proofs.AskedLaws.{numbers-asked, numbers-missing}
 use Rattle.xr.proofs.WalkLaws.{located-within, located-refused, found-located}
-use Rattle.wire.specs.Packet.{locate}
-use Rattle.readings.specs.Packets.{numbersAsked}
+use Rattle.def_wire.specs.Packet.{locate}
+use Rattle.def_questions.specs.Packets.{numbersAsked}
 use native.Mathlib.Omega.{arith}
 use mathlib.Core.Path.{_≡_, sym, ap, _∙_}
 use borrow.Author.Needs.{needs}

@@ -1,4 +1,4 @@
-use Rattle.readings.specs.Questions.{numbersShown}
+use Rattle.def_questions.specs.Questions.{numbersShown}
 use Rattle.xport.proofs.FlatLaws.{flat-listed}
 use mathlib.Core.Path.{ap}
 use borrow.Author.Needs.{needs}

@@ -1,4 +1,4 @@
-use Rattle.readings.specs.Packets.{pairsAsked}
+use Rattle.def_questions.specs.Packets.{pairsAsked}
 use Rattle.xport.proofs.FlatLaws.{flat-pairs}
 use mathlib.Core.Path.{ap}
 use borrow.Author.Needs.{needs}

@@ -1,4 +1,4 @@
-use Rattle.readings.specs.Packets.{timeAsked}
+use Rattle.def_questions.specs.Packets.{timeAsked}
 use Rattle.xport.specs.Flat.{flatTime}
 use mathlib.Core.Path.{ap, _∙_}
 use borrow.Author.Needs.{needs}

@@ -1,4 +1,4 @@
-use Rattle.readings.specs.Packets.{wordsAsked}
+use Rattle.def_questions.specs.Packets.{wordsAsked}
 use Rattle.xport.proofs.FlatLaws.{flat-listed}
 use mathlib.Core.Path.{ap}
 use borrow.Author.Needs.{needs}

@@ -5,8 +5,8 @@ use mathlib.Core.Bool.{true}
 use native.Mathlib.Omega.{arith}
 use lib.ListN.{length}
 use borrow.Author.Tests.{not-true, not-false}
-use Rattle.wire.specs.Packet.{sizeAt}
-use Rattle.wire.specs.declared.Located.the-variants.{At}
+use Rattle.def_wire.specs.Packet.{sizeAt}
+use Rattle.def_wire.specs.declared.Located.the-variants.{At}
 use Rattle.xr.specs.Parts.{isEnd}
 use Rattle.xr.proofs.WalkLaws.{end-fine, found-no-end, found-done, found-none, found-cut, walk-within, place-zero}
 use borrow.Author.Needs.{needs}

@@ -1,14 +1,14 @@
-use Rattle.wire.specs.declared.Reading.the-variants.{Standard, Crate}
+use Rattle.def_wire.specs.declared.Reading.the-variants.{Standard, Crate}
 -- `xr::header` meets its contract: each way out cites a law of `headerOf`, with the tests that led there.
 use Prim.Native.Nat.{ℕ, _≤_, _/_, _%_}
 use mathlib.Core.Path.{_≡_, sym, _∙_, ap}
 use mathlib.Core.List.{List}
 use native.Mathlib.Omega.{arith}
 use lib.ListN.{length}
-use Rattle.refusals.specs.declared.Answer.the-variants.{Done, Refused}
-use Rattle.wire.specs.declared.Reading.{Reading}
-use Rattle.wire.specs.Bytes.{byteAt}
-use Rattle.wire.specs.Packet.{leastOf, announcedOf, paddingOf, stopOf, headerOf, isBadPadding}
+use Rattle.def_refusals.specs.declared.Answer.the-variants.{Done, Refused}
+use Rattle.def_wire.specs.declared.Reading.{Reading}
+use Rattle.def_wire.specs.Bytes.{byteAt}
+use Rattle.def_wire.specs.Packet.{leastOf, announcedOf, paddingOf, stopOf, headerOf, isBadPadding}
 use mathlib.Core.Bool.{true, false}
 use Rattle.xr.proofs.HeaderLaws.{least-ge, header-short, header-version, header-type, header-length, header-padding, header-padded, header-plain, stop-plain, stop-standard, stop-crate, good-padding}
 use borrow.Author.Needs.{needs}

@@ -3,7 +3,7 @@ use Prim.Native.Nat.{ℕ, _+_, _-_, _≤_, _<_}
 use mathlib.Core.Path.{_≡_, refl, sym, ap, _∙_}
 use native.Mathlib.Omega.{arith}
 use borrow.Author.Needs.{needs}
-use Rattle.wire.specs.Packet.{lengthAt}
+use Rattle.def_wire.specs.Packet.{lengthAt}
 use Rattle.xr.specs.Parts.{Walking}
 use Rattle.xr.proofs.WalkTurn.{begun, turned, cut, ended, reached, unreached}
 use Rattle.xr.proofs.walk_on.Statement.{statement}

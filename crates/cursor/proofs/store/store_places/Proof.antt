@@ -2,11 +2,11 @@
 use Rattle.cursor.proofs.PlacesLaws.{places-zeros, places-ones}
 use Rattle.cursor.proofs.LegalLaws.{steps-le, steps-some}
 use Rattle.cursor.specs.Steps.{placesIn}
-use Rattle.cursors.specs.Cursor.{stepsIn}
+use Rattle.def_cursor.specs.Cursor.{stepsIn}
 use Rattle.rle.proofs.ListingLaws.{length-progression}
 use Rattle.rle.specs.Along.{along}
 use Rattle.chunk.proofs.ChunkLaws.{covers-vector}
-use Rattle.standard.specs.Chunks.{coversOf}
+use Rattle.def_standard.specs.Chunks.{coversOf}
 use lib.ListN.{length}
 use Prim.Native.Nat.{_+_, _-_, min}
 use mathlib.Core.Path.{_≡_, refl, sym, ap, _∙_}

@@ -6,7 +6,7 @@ use mathlib.Core.List.{_∷_}
 use borrow.Author.Tests.{le-ltb}
 use borrow.Author.Needs.{needs}
 use lib.ListN.{length}
-use Rattle.standard.specs.Chunks.{coversOf}
+use Rattle.def_standard.specs.Chunks.{coversOf}
 use Rattle.rle.specs.Along.{along, onward}
 use Rattle.rle.proofs.WordLaws.{alongFrom, alongFrom-end, alongFrom-one, alongFrom-zero}
 use Rattle.rle.proofs.Storing.{Storing, start, skip, moved, within, put, done}

@@ -1,6 +1,6 @@
 -- `records::DuplicateRle::read` meets its contract.
 use Rattle.records.specs.declared.DuplicateOr.the-variants.{Duplicate}
-use Rattle.wire.specs.declared.Fields.{Fields}
+use Rattle.def_wire.specs.declared.Fields.{Fields}
 use Rattle.records.specs.Records.{duplicateOf}
 use mathlib.Core.Path.{_≡_, sym, ap, _∙_}
 use borrow.Author.Needs.{needs}

@@ -1,6 +1,6 @@
 -- `records::LossRle::read` meets its contract.
 use Rattle.records.specs.declared.LossOr.the-variants.{Loss}
-use Rattle.wire.specs.declared.Fields.{Fields}
+use Rattle.def_wire.specs.declared.Fields.{Fields}
 use Rattle.records.specs.Records.{lossOf}
 use mathlib.Core.Path.{_≡_, sym, ap, _∙_}
 use borrow.Author.Needs.{needs}

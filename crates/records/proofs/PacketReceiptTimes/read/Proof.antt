@@ -1,6 +1,6 @@
 -- `records::PacketReceiptTimes::read` meets its contract.
 use Rattle.records.specs.declared.ReceiptOr.the-variants.{Receipt}
-use Rattle.wire.specs.declared.Fields.{Fields}
+use Rattle.def_wire.specs.declared.Fields.{Fields}
 use Rattle.records.specs.Records.{receiptOf}
 use mathlib.Core.Path.{_≡_, sym, ap, _∙_}
 use borrow.Author.Needs.{needs}

@@ -1,6 +1,6 @@
 -- `records::ReceiverReferenceTime::read` meets its contract.
 use Rattle.records.specs.declared.ClockOr.the-variants.{Clock}
-use Rattle.wire.specs.declared.LongTime.{LongTime}
+use Rattle.def_wire.specs.declared.LongTime.{LongTime}
 use Rattle.records.specs.Records.{clockOf}
 use mathlib.Core.Path.{_≡_, sym, ap, _∙_}
 use borrow.Author.Needs.{needs}

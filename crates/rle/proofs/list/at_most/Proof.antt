@@ -4,7 +4,7 @@ use mathlib.Core.Path.{_≡_}
 use native.Mathlib.Omega.{arith}
 use borrow.Author.Needs.{needs}
 use lib.ListN.{length, drop}
-use Rattle.wire.specs.Bytes.{words16}
+use Rattle.def_wire.specs.Bytes.{words16}
 use Rattle.rle.specs.Failing.{mostOf}
 use Rattle.rle.proofs.CrateTurn.{most-end, most-next, most-fits}
 use Rattle.rle.proofs.list.at_most.Statement.{statement}

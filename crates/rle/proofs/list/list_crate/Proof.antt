@@ -9,12 +9,12 @@ use native.Mathlib.Omega.{arith}
 use borrow.Author.Needs.{needs}
 use lib.Dec.{lit<}
 use lib.ListN.{length, take}
-use Rattle.wire.specs.Bytes.{words16, be16}
-use Rattle.standard.specs.Chunks.{coversOf, valuesIn}
-use Rattle.old_crate.specs.Sequence.{movedBy}
-use Rattle.old_crate.specs.Crate.{crateNumbersFrom}
-use Rattle.base.proofs.Filling.{Filling, start as begun, skip, moved as settled, room-for, done}
-use Rattle.base.proofs.Stores.{Wrote, same}
+use Rattle.def_wire.specs.Bytes.{words16, be16}
+use Rattle.def_standard.specs.Chunks.{coversOf, valuesIn}
+use Rattle.def_crate.specs.Sequence.{movedBy}
+use Rattle.def_crate.specs.Crate.{crateNumbersFrom}
+use Rattle.laws.proofs.Filling.{Filling, start as begun, skip, moved as settled, room-for, done}
+use Rattle.laws.proofs.Stores.{Wrote, same}
 use Rattle.rle.specs.Along.{along}
 use Rattle.rle.specs.Inside.{stepOf}
 use Rattle.rle.proofs.WordLaws.{along-same}

@@ -7,9 +7,9 @@ use borrow.Author.Tests.{not-false}
 use borrow.Author.Needs.{needs}
 use lib.Dec.{ltb, leb}
 use lib.ListN.{length}
-use Rattle.base.proofs.Stores.{Wrote, same}
-use Rattle.wire.specs.Bytes.{be16}
-use Rattle.old_crate.specs.Sequence.{movedBy}
+use Rattle.laws.proofs.Stores.{Wrote, same}
+use Rattle.def_wire.specs.Bytes.{be16}
+use Rattle.def_crate.specs.Sequence.{movedBy}
 use Rattle.rle.specs.Along.{progression, past}
 use Rattle.rle.specs.Inside.{stepOf}
 use Rattle.rle.specs.Runs.{Ran}

@@ -6,11 +6,11 @@ use native.Mathlib.Nat.{one-mul}
 use native.Mathlib.Omega.{arith}
 use borrow.Author.Needs.{needs}
 use lib.ListN.{length, take}
-use Rattle.wire.specs.Bytes.{words16, be16}
-use Rattle.standard.specs.Chunks.{coversOf, valuesIn}
-use Rattle.standard.specs.Standard.{numbersOf}
-use Rattle.base.proofs.Filling.{Filling, start, skip, room-for, done}
-use Rattle.base.proofs.Stores.{Wrote}
+use Rattle.def_wire.specs.Bytes.{words16, be16}
+use Rattle.def_standard.specs.Chunks.{coversOf, valuesIn}
+use Rattle.def_standard.specs.Standard.{numbersOf}
+use Rattle.laws.proofs.Filling.{Filling, start, skip, room-for, done}
+use Rattle.laws.proofs.Stores.{Wrote}
 use Rattle.rle.proofs.Writing.{wrote, wrote-last}
 use Rattle.rle.specs.Along.{along}
 use Rattle.rle.specs.Inside.{stepOf}

@@ -3,8 +3,8 @@ use Prim.Native.Nat.{_-_, _≤_}
 use native.Mathlib.Omega.{arith}
 use borrow.Author.Needs.{needs}
 use lib.ListN.{length, drop}
-use Rattle.wire.specs.Bytes.{words16}
-use Rattle.base.proofs.Filling.{Filling, start, within, put, done}
+use Rattle.def_wire.specs.Bytes.{words16}
+use Rattle.laws.proofs.Filling.{Filling, start, within, put, done}
 use Rattle.utils.proofs.BytesLaws.{pairUp-cons, pairUp-end}
 use Rattle.rle.proofs.list.list_words.Statement.{statement}
 use Rattle.rle.proofs.list.list_words.Tie as tie

@@ -8,10 +8,10 @@ use native.Mathlib.Omega.{arith}
 use borrow.Author.Needs.{needs}
 use lib.Dec.{lit<}
 use lib.ListN.{length}
-use Rattle.wire.specs.Bytes.{words16, be16}
-use Rattle.standard.specs.Chunks.{coversOf}
-use Rattle.old_crate.specs.Sequence.{movedBy}
-use Rattle.old_crate.specs.Crate.{crateNumbersFrom}
+use Rattle.def_wire.specs.Bytes.{words16, be16}
+use Rattle.def_standard.specs.Chunks.{coversOf}
+use Rattle.def_crate.specs.Sequence.{movedBy}
+use Rattle.def_crate.specs.Crate.{crateNumbersFrom}
 use Rattle.rle.specs.Inside.{stepOf}
 use Rattle.rle.specs.Failing.{stopAt, firstFail}
 use Rattle.rle.proofs.WordLaws.{length-ones, along-same}

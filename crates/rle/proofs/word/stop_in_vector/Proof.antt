@@ -6,7 +6,7 @@ use native.Mathlib.Omega.{arith}
 use borrow.Author.Needs.{needs}
 use borrow.Author.Tests.{not-true, not-false}
 use lib.Pow.{pow-pos}
-use Rattle.old_crate.specs.Sequence.{passes, sequenceOf}
+use Rattle.def_crate.specs.Sequence.{passes, sequenceOf}
 use Rattle.rle.specs.Failing.{stopFrom, stopAt}
 use Rattle.rle.proofs.DigitLaws.{digits, digits-all, top-below, stop-none, stop-top}
 use Rattle.rle.proofs.StopLaws.{moved-sequence}

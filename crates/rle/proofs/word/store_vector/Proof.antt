@@ -6,7 +6,7 @@ use native.Mathlib.Omega.{arith}
 use borrow.Author.Needs.{needs}
 use lib.ListN.{take}
 use lib.Pow.{shr-lt, pow-pos}
-use Rattle.standard.specs.Chunks.{valuesIn}
+use Rattle.def_standard.specs.Chunks.{valuesIn}
 use Rattle.rle.specs.Along.{along}
 use Rattle.rle.proofs.DigitLaws.{digits, digits-vector, top-below, along-none, along-top}
 use Rattle.rle.proofs.Storing.{Storing, start, skip, within, put, done}

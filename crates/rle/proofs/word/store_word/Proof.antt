@@ -2,7 +2,7 @@
 use Rattle.rle.proofs.WordLaws.{word-zeros, word-ones, word-vector}
 use Rattle.rle.proofs.ListingLaws.{length-progression}
 use Rattle.rle.specs.Along.{along}
-use Rattle.standard.specs.Chunks.{valuesIn}
+use Rattle.def_standard.specs.Chunks.{valuesIn}
 use lib.ListN.{length, take}
 use native.Mathlib.Omega.{arith}
 use mathlib.Core.Path.{_≡_, refl, sym, ap, _∙_}
