@@ -1,7 +1,7 @@
 -- The laws of a block's checks, fields and time: each way in which they end, with the tests that lead there as premises.
 use Prim.Native.Nat.{ℕ, _+_, _-_, _%_, _≤_, _<_}
-use mathlib.Core.Path.{_≡_, refl, sym, ap, _∙_}
-use mathlib.Core.Bool.{Bool, true, false, cond}
+use mathlib.Core.Path.{_≡_}
+use mathlib.Core.Bool.{true, false}
 use mathlib.Core.List.{List}
 use native.Mathlib.Omega.{arith}
 use lib.ListN.{length, take, drop}
@@ -9,19 +9,14 @@ use lib.Dec.{ltb, leb, eqb}
 use borrow.Author.Tests.{le-leb, lt-leb, eq-eqb, ne-eqb}
 use Rattle.def_refusals.specs.declared.Refusal.{Refusal}
 use Rattle.def_refusals.specs.declared.Refusal.the-variants.{OtherType, NoFields}
-use Rattle.def_refusals.specs.declared.Checked.{Checked}
 use Rattle.def_refusals.specs.declared.Checked.the-variants.{Fine, Unfit}
 use Rattle.def_wire.specs.declared.Reading.{Reading}
 use Rattle.def_wire.specs.declared.Reading.the-variants.{Standard, Crate}
-use Rattle.def_wire.specs.declared.Fields.{Fields}
-use Rattle.def_wire.specs.declared.FieldsOr.{FieldsOr}
 use Rattle.def_wire.specs.declared.FieldsOr.the-variants.{Shown, NoneOf}
-use Rattle.def_wire.specs.declared.TimeOr.{TimeOr}
 use Rattle.def_wire.specs.declared.TimeOr.the-variants.{Time, NoTime}
-use Rattle.def_wire.specs.declared.Located.{Located}
 use Rattle.def_wire.specs.declared.Located.the-variants.{At, Missing}
 use Rattle.def_wire.specs.Packet.{locate, part}
-use Rattle.def_wire.specs.Block.{typeOf, blockLength, rule, nextFit, standardRule, crateRule, fitness, checkOf, isCut, fieldsAt, fieldsOf, timeAt, timeOf, clockType, echoType, receiptType}
+use Rattle.def_wire.specs.Block.{typeOf, blockLength, rule, standardRule, crateRule, fitness, checkOf, isCut, fieldsAt, fieldsOf, timeAt, timeOf, clockType, echoType, receiptType}
 use Rattle.def_questions.specs.Packets.{fieldsAsked, timeAsked}
 
 module _ (t l : ℕ) where

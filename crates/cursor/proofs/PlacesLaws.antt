@@ -3,7 +3,7 @@
 --     numbers-places                              numbers by positions are numbers one step apart, as far as the range goes
 use Prim.Native.Nat.{ℕ, zero, suc, _+_, _-_, _/_, _%_, min, _≤_, _<_}
 use mathlib.Core.Path.{_≡_, refl, _∙_}
-use mathlib.Core.List.{List, []}
+use mathlib.Core.List.{List}
 use native.Mathlib.Omega.{arith}
 use lib.ListN.{take, drop, replicate, length-take}
 use lib.Seq.{take-take, take-all}

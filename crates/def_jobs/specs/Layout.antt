@@ -1,9 +1,9 @@
 -- The packet that a job list asks for, in the plain and in the careful layout (document 01, "Job lists and writing").
 use Prim.Native.Nat.{ℕ, zero, suc, _+_, _*_, _-_, _/_, _%_}
-use mathlib.Core.Bool.{Bool, true, false, cond, not, _&&_}
-use mathlib.Core.List.{List, [], _∷_, _++_}
+use mathlib.Core.Bool.{Bool, cond}
+use mathlib.Core.List.{List, _∷_, _++_}
 use lib.ListN.{length, getD, replicate}
-use lib.Dec.{ltb, eqb}
+use lib.Dec.{eqb}
 use Rattle.def_wire.specs.declared.Fields.{Fields}
 use Rattle.def_wire.specs.Bytes.{two, four, eight}
 use Rattle.def_wire.specs.declared.Ranged.the-variants.{Chunks, Times}

@@ -6,7 +6,7 @@ use Prim.Native.Nat.{ℕ}
 use mathlib.Core.List.{List}
 use Rattle.def_refusals.specs.declared.Refusal.{Refusal}
 use Rattle.def_refusals.specs.declared.Refusal.the-variants.{OtherType}
-use Rattle.def_refusals.specs.Answers.{Or, shown, refused, onShown}
+use Rattle.def_refusals.specs.Answers.{Or, refused, onShown}
 use Rattle.def_wire.specs.declared.Reading.{Reading}
 use Rattle.def_wire.specs.declared.Rle.{Rle}
 use Rattle.def_wire.specs.declared.RleOr.{RleOr}

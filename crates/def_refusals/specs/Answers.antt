@@ -4,7 +4,7 @@
 --     filledOf            what the lent list then holds
 --     Listed              a listing call's contract: both, as equations
 use Prim.Native.Nat.{ℕ}
-use mathlib.Core.Bool.{Bool, cond}
+use mathlib.Core.Bool.{cond}
 use mathlib.Core.Path.{_≡_}
 use mathlib.Core.List.{List, _++_, map}
 use lib.ListN.{length, drop}

@@ -1,9 +1,9 @@
 -- The laws of `entriesOf`, entry by entry, and of its listing calls.
-use Prim.Native.Nat.{ℕ, zero, suc, _+_, _*_, _-_, _/_, _≤_, _<_, min}
-use mathlib.Core.Path.{_≡_, refl, sym, ap, _∙_}
-use mathlib.Core.List.{List, [], _∷_, _++_, map}
+use Prim.Native.Nat.{ℕ, _+_, _-_, _/_, _≤_, _<_}
+use mathlib.Core.Path.{_≡_, refl, ap, _∙_}
+use mathlib.Core.List.{List, _∷_, map}
 use native.Mathlib.Omega.{arith}
-use lib.ListN.{length, drop, take, length-drop, length-map, length-take}
+use lib.ListN.{length, drop, take, length-drop, length-map}
 use Rattle.def_refusals.specs.declared.Refusal.{Refusal}
 use Rattle.def_refusals.specs.declared.Refusal.the-variants.{NoRoom}
 use Rattle.def_refusals.specs.declared.Answer.the-variants.{Done, Refused}
@@ -12,14 +12,14 @@ use Rattle.def_refusals.specs.Answers.{Or, shown, refused, each}
 use Rattle.laws.proofs.Answering.{answer-listed, answer-full, answer-refused, filled-listed, filled-full, filled-refused}
 use Rattle.def_wire.specs.declared.Reading.{Reading}
 use Rattle.def_wire.specs.declared.Located.the-variants.{At, Missing}
-use Rattle.def_wire.specs.Packet.{locate, part}
+use Rattle.def_wire.specs.Packet.{locate}
 use Rattle.def_wire.specs.Bytes.{be32, words32}
 use Rattle.def_wire.specs.Block.{checkOf, echoType}
 use Rattle.def_standard.specs.declared.Echo.{Echo}
 use Rattle.def_standard.specs.Standard.{echoesOf, entriesOf}
 use Rattle.def_questions.specs.Questions.{entriesShown, ListedEntries, least3}
 use Rattle.def_questions.specs.Packets.{entriesAsked}
-use Rattle.utils.proofs.BytesLaws.{words32-cons, words32-end, length-words32}
+use Rattle.utils.proofs.BytesLaws.{words32-cons, length-words32}
 use Rattle.dlrr.specs.Entries.{echoAt, ssrcIn, lastIn, delayIn, Stored}
 
 -- from a place with twelve whole bytes behind it on

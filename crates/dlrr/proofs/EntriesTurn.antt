@@ -1,10 +1,10 @@
 -- One turn of the loop that stores entries, on plain lists and numbers.
-use Prim.Native.Nat.{ℕ, _+_, _*_, _-_, _/_, _≤_, _<_}
-use mathlib.Core.Path.{_≡_, refl, sym, ap, _∙_}
-use mathlib.Core.List.{List, [], _∷_, map}
+use Prim.Native.Nat.{ℕ, _+_, _*_, _≤_, _<_}
+use mathlib.Core.Path.{_≡_, refl, ap}
+use mathlib.Core.List.{List, _∷_, map}
 use native.Mathlib.Omega.{arith}
 use lib.ListN.{length, drop, set, length-map}
-use Rattle.laws.proofs.Filling.{Filling, start, within, put, skip, done}
+use Rattle.laws.proofs.Filling.{Filling, start, within, put, done}
 use Rattle.def_wire.specs.Bytes.{words32}
 use Rattle.def_standard.specs.declared.Echo.{Echo}
 use Rattle.def_standard.specs.Standard.{echoesOf, entriesOf}

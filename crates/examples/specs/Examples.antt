@@ -1,12 +1,11 @@
 -- Document 01, "Twelve examples to prove together": one statement covers the list. proofs/Twelve.antt proves it by computation.
 use Prim.Native.Nat.{ℕ}
 use mathlib.Core.Path.{_≡_}
-use mathlib.Core.List.{List, [], _∷_, _++_}
+use mathlib.Core.List.{_∷_, _++_}
 use Rattle.def_refusals.specs.declared.Refusal.the-variants.{TooShort, BadBlockLength, Misleads}
 use Rattle.def_refusals.specs.declared.Answer.the-variants.{Done, Refused}
-use Rattle.def_refusals.specs.declared.Numbered.{Numbered}
 use Rattle.def_refusals.specs.Numbers.{numbered, row}
-use Rattle.def_refusals.specs.Answers.{Or, shown, refused}
+use Rattle.def_refusals.specs.Answers.{shown, refused}
 use Rattle.def_wire.specs.declared.Reading.the-variants.{Standard, Crate}
 use Rattle.def_wire.specs.declared.Fields.{Fields}
 use Rattle.def_wire.specs.declared.FieldsOr.the-variants.{Shown}
@@ -14,7 +13,7 @@ use Rattle.def_wire.specs.Packet.{countOf, lengthAt}
 use Rattle.def_wire.specs.declared.Rle.the-variants.{Loss}
 use Rattle.def_wire.specs.declared.Ranged.the-variants.{Chunks}
 use Rattle.def_standard.specs.declared.Echo.{Echo}
-use Rattle.def_standard.specs.Chunks.{coversOf, valueOf}
+use Rattle.def_standard.specs.Chunks.{coversOf}
 use Rattle.def_standard.specs.Range.{rangeOf}
 use Rattle.def_standard.specs.Standard.{numbersOf, receipt}
 use Rattle.def_crate.specs.Crate.{onesIn}

@@ -1,9 +1,9 @@
 -- What a reading is asked: a block's numbers and words from the bytes of its words, and each way in which they are refused.
 use Prim.Native.Nat.{ℕ, _+_, _-_, _≤_}
-use mathlib.Core.Path.{_≡_, refl, sym, ap, _∙_}
+use mathlib.Core.Path.{_≡_, refl, ap, _∙_}
 use mathlib.Core.List.{List}
 use native.Mathlib.Omega.{arith}
-use lib.ListN.{length, take, drop, length-take}
+use lib.ListN.{take, drop, length-take}
 use lib.Seq.{take-all}
 use Rattle.def_refusals.specs.declared.Refusal.{Refusal}
 use Rattle.def_refusals.specs.declared.Checked.the-variants.{Fine, Unfit}
@@ -19,7 +19,7 @@ use Rattle.def_wire.specs.Block.{checkOf, blockLength, fieldsAt}
 use Rattle.def_standard.specs.Range.{rangeOf}
 use Rattle.def_standard.specs.Standard.{numbersOf}
 use Rattle.def_crate.specs.Crate.{crateNumbersFrom}
-use Rattle.def_questions.specs.Questions.{numbersShown, wordsShown, wordsIn, numbersIn}
+use Rattle.def_questions.specs.Questions.{numbersShown, wordsShown, wordsIn}
 use Rattle.def_questions.specs.Packets.{numbersAsked, wordsAsked}
 use Rattle.rle.specs.Failing.{longest}
 use Rattle.numbers.specs.Words.{wordBytes}

@@ -1,33 +1,26 @@
 -- Both readings list a first stretch of the times.
-use Prim.Native.Nat.{ℕ, zero, suc, _+_, _*_, _-_, _/_, _%_, _^_, _≤_, _<_, min}
+use Prim.Native.Nat.{ℕ, zero, suc, _+_, _*_, _-_, _%_, _^_, _≤_, _<_, min}
 use mathlib.Core.Path.{_≡_, refl, sym, ap, _∙_}
-use mathlib.Core.Bool.{Bool, true, false, cond}
-use mathlib.Core.List.{List, [], _∷_, _++_, map}
+use mathlib.Core.List.{List, _∷_}
 use native.Mathlib.Omega.{arith}
-use lib.ListN.{length, drop, length-drop}
-use lib.Dec.{ltb, eqb}
-use borrow.Author.Tests.{ltb-true, ltb-false, eqb-true, eqb-false}
+use lib.ListN.{length}
+use lib.Dec.{ltb}
+use borrow.Author.Tests.{ltb-true, ltb-false}
 use Rattle.laws.proofs.Tests.{either}
-use Rattle.def_wire.specs.declared.Reading.{Reading}
-use Rattle.def_wire.specs.declared.Reading.the-variants.{Standard, Crate}
 use Rattle.def_wire.specs.declared.Fields.{Fields}
-use Rattle.def_wire.specs.Bytes.{be32, words32}
-use Rattle.def_wire.specs.Block.{fieldsAt}
 use Rattle.def_standard.specs.declared.Range.{Range}
 use Rattle.def_standard.specs.declared.Receipt.{Receipt}
-use Rattle.def_standard.specs.Range.{rangeOf, offsetOf, inside, numberOf}
+use Rattle.def_standard.specs.Range.{rangeOf, offsetOf, numberOf}
 use Rattle.def_standard.specs.Standard.{receipt, pairsFrom}
 use Rattle.def_crate.specs.Sequence.{sequenceOf, passes}
 use Rattle.def_crate.specs.Crate.{cratePairsFrom}
-use Rattle.def_questions.specs.Questions.{pairsIn}
-use Rattle.utils.proofs.BytesLaws.{words32-cons, length-words32}
 use Rattle.rle.specs.Along.{onward}
 use Rattle.rle.specs.Inside.{insideCount, stepOf}
 use Rattle.rle.specs.Failing.{firstFail, never}
 use Rattle.rle.proofs.NumbersLaws.{numberOf-suc}
 use Rattle.rle.proofs.InsideLaws.{is-inside, is-outside}
 use Rattle.rle.proofs.FailLaws.{before-first, at-first}
-use Rattle.packet_receipt_time.specs.Pairs.{listable, firstPairs, stepped}
+use Rattle.packet_receipt_time.specs.Pairs.{firstPairs, stepped}
 
 -- ---- firstPairs
 module _ (g : Range) where

@@ -2,7 +2,7 @@
 use Prim.Native.Nat.{ℕ, zero, suc, _+_, _*_, min, _%_, _^_, _≤_, _<_}
 use mathlib.Core.Path.{_≡_, refl, sym, ap, _∙_}
 use mathlib.Core.Bool.{true, _&&_}
-use mathlib.Core.List.{List, [], _++_, append-assoc}
+use mathlib.Core.List.{List, _++_, append-assoc}
 use native.Mathlib.Nat.{add-zero, mod-lt}
 use native.Mathlib.Omega.{arith}
 use lib.Dec.{ltb, leb, lit<}
@@ -23,7 +23,7 @@ use Rattle.rle.proofs.WordLaws.{word-ones}
 use Rattle.rle.proofs.StopLaws.{stop-clear, moved-sequence}
 use Rattle.rle.proofs.NextLaws.{next-same}
 use Rattle.rle.proofs.CrateLaws.{sequenceOf-suc}
-use Rattle.rle.proofs.CrateTurn.{added, here-next}
+use Rattle.rle.proofs.CrateTurn.{here-next}
 
 -- the number after a run is where the start moves to
 pub past-moved : (t start n : ℕ) → start < 65536 → past (stepOf t) start n ≡ movedBy n t start

@@ -3,7 +3,7 @@
 --     stopAt       the place of a word's first one whose number fails
 use Prim.Native.Nat.{ℕ, suc, _+_, _*_, _-_, _%_, _^_}
 use mathlib.Core.Bool.{Bool, cond, not, _&&_}
-use mathlib.Core.List.{List, [], _∷_}
+use mathlib.Core.List.{List, _∷_}
 use lib.Dec.{ltb, eqb}
 use Rattle.def_standard.specs.Chunks.{coversOf, valuesIn}
 use Rattle.def_standard.specs.Range.{circle}

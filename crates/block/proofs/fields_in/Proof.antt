@@ -1,61 +1,48 @@
+-- `block::fields_in` meets its contract: the fields of block k of a packet.
 use Rattle.block.proofs.BlockLaws.{fields-asked, fields-missing}
 use Rattle.xr.proofs.WalkLaws.{located-within}
 use native.Mathlib.Omega.{arith}
-use mathlib.Core.Path.{_≡_, refl, sym, ap, _∙_}
+use mathlib.Core.Path.{sym, _∙_}
 use borrow.Author.Needs.{needs}
 use Rattle.block.proofs.fields_in.Statement.{statement}
 use Rattle.block.proofs.fields_in.Tie as tie
-use Rattle.block.proofs.fields_in.Reads as reads
-use Rattle.block.proofs.fields_in.Lts as lts
-use Rattle.block.proofs.fields.Reads as fields-reads
-use Rattle.xr.proofs.locate.Reads as locate-reads
 
--- src/lib.rt:157:11
 locate-requires : tie.Need-locate-requires
 locate-requires c κs = search needs
 
--- src/lib.rt:158:21
 enum-known-at : tie.Need-enum-known-at
 enum-known-at c = search needs
 
--- src/lib.rt:158:51
 add-fields : tie.Need-add-fields
 add-fields c = let p = c .before in
     let l = p .before .before in
     let a = l .before .before .args in
     omega (arith, located-within (a .r) (a .s .now) (a .k) (p .at .given .0 .0) (p .at .given .0 .1 .0) (sym (l .locate .ensures) ∙ p .at .given .1) .end)
 
--- src/lib.rt:158:44
 sub-fields : tie.Need-sub-fields
 sub-fields c = search needs
 
--- src/lib.rt:158:44
 part-fields-start : tie.Need-part-fields-start
 part-fields-start c = search needs
 
--- src/lib.rt:158:44
 part-fields-end : tie.Need-part-fields-end
 part-fields-end c = let p = c .before in
     let l = p .before .before in
     let a = l .before .before .args in
     omega (arith, located-within (a .r) (a .s .now) (a .k) (p .at .given .0 .0) (p .at .given .0 .1 .0) (sym (l .locate .ensures) ∙ p .at .given .1) .end)
 
--- src/lib.rt:158:31
 fields-requires : tie.Need-fields-requires
 fields-requires c κs = search needs
 
--- src/lib.rt:159:26
 enum-known-x : tie.Need-enum-known-x
 enum-known-x c = search needs
 
--- src/lib.rt:154:1
 returns : tie.Need-returns
 returns c = let p = c .before .before .before in
     let l = p .before .before in
     let a = l .before .before .args in
     c .fields .ensures ∙ fields-asked (a .r) (a .s .now) (a .k) (p .at .given .0 .0) (p .at .given .0 .1 .0) (sym (l .locate .ensures) ∙ p .at .given .1) (a .t)
 
--- src/lib.rt:154:1
 returns-2 : tie.Need-returns-2
 returns-2 c = let p = c .before in
     let l = p .before .before in

@@ -1,44 +1,33 @@
+-- `block::fit` meets its contract: whether a block, asked as type t, is fit to be read.
 use Rattle.block.proofs.BlockLaws.{fitness-standard, fitness-crate}
 use Rattle.def_wire.specs.Block.{crateRule}
 use lib.ListN.{length}
 use Prim.Native.Nat.{ℕ}
-use mathlib.Core.Path.{_≡_, refl, sym, ap, _∙_}
+use mathlib.Core.Path.{ap, _∙_}
 use borrow.Author.Needs.{needs}
 use Rattle.block.proofs.fit.Statement.{statement}
 use Rattle.block.proofs.fit.Tie as tie
-use Rattle.block.proofs.fit.Reads as reads
-use Rattle.block.proofs.fit.Lts as lts
-use Rattle.block.proofs.crate_rule.Reads as crate-rule-reads
-use Rattle.block.proofs.says.Reads as says-reads
-use Rattle.block.proofs.standard_rule.Reads as standard-rule-reads
 
--- src/lib.rt:85:47
 enum-told : tie.Need-enum-told
 enum-told c = search needs
 
--- src/lib.rt:85:30
 standard-rule-requires : tie.Need-standard-rule-requires
 standard-rule-requires c κs = search needs
 
--- src/lib.rt:86:41
 enum-told-2 : tie.Need-enum-told-2
 enum-told-2 c = search needs
 
--- src/lib.rt:86:41
 says-requires : tie.Need-says-requires
 says-requires c κs = search needs
 
--- src/lib.rt:86:27
 crate-rule-requires : tie.Need-crate-rule-requires
 crate-rule-requires c κs = search needs
 
--- src/lib.rt:81:1
 returns : tie.Need-returns
 returns c = let t = c .before in
     let a = t .before .before .before .args in
     c .standard-rule .ensures ∙ fitness-standard (a .r) (a .t) (a .v .now) (t .enum-told .given .1)
 
--- src/lib.rt:81:1
 returns-2 : tie.Need-returns-2
 returns-2 c = let s = c .before in
     let t = s .before in

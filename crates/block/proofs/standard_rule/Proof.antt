@@ -1,48 +1,36 @@
+-- `block::standard_rule` meets its contract.
 use Rattle.block.proofs.BlockLaws.{standard-clock, standard-echo, standard-other}
-use mathlib.Core.Path.{_≡_, refl, sym, ap, _∙_}
+use mathlib.Core.Path.{_∙_}
 use borrow.Author.Needs.{needs}
 use Rattle.block.proofs.standard_rule.Statement.{statement}
 use Rattle.block.proofs.standard_rule.Tie as tie
-use Rattle.block.proofs.standard_rule.Reads as reads
-use Rattle.block.proofs.standard_rule.Lts as lts
-use Rattle.block.proofs.behind.Reads as behind-reads
-use Rattle.block.proofs.rule.Reads as rule-reads
 
--- src/lib.rt:32:9
 rule-requires : tie.Need-rule-requires
 rule-requires c κs = search needs
 
--- src/lib.rt:32:9
 returns : tie.Need-returns
 returns c = let a = c .before .before .args in c .rule .ensures ∙ standard-clock (a .t) (a .l) (c .before .if1 .taken)
 
--- src/lib.rt:35:20
 behind-requires : tie.Need-behind-requires
 behind-requires c κs = search needs
 
--- src/lib.rt:36:37
 sub-rule : tie.Need-sub-rule
 sub-rule c = search needs
 
--- src/lib.rt:36:32
 add-rule : tie.Need-add-rule
 add-rule c = search needs
 
--- src/lib.rt:36:9
 rule-requires-2 : tie.Need-rule-requires-2
 rule-requires-2 c κs = search needs
 
--- src/lib.rt:36:9
 returns-2 : tie.Need-returns-2
 returns-2 c = let b = c .before in
     let a = b .before .before .before .args in
     c .rule2 .ensures ∙ standard-echo (a .t) (a .l) (b .before .before .if1 .left) (b .before .if2 .taken) (b .behind .result) (b .behind .ensures)
 
--- src/lib.rt:38:5
 rule-requires-3 : tie.Need-rule-requires-3
 rule-requires-3 c κs = search needs
 
--- src/lib.rt:27:1
 returns-3 : tie.Need-returns-3
 returns-3 c = let e = c .before in
     let a = e .before .before .args in

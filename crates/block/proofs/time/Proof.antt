@@ -1,37 +1,28 @@
+-- `block::time` meets its contract: the time of a block of type 4.
 use Rattle.block.proofs.BlockLaws.{time-shown, time-unfit}
-use mathlib.Core.Path.{_≡_, refl, sym, ap, _∙_}
+use mathlib.Core.Path.{sym, _∙_}
 use borrow.Author.Needs.{needs}
 use Rattle.block.proofs.time.Statement.{statement}
 use Rattle.block.proofs.time.Tie as tie
-use Rattle.block.proofs.time.Reads as reads
-use Rattle.block.proofs.time.Lts as lts
-use Rattle.block.proofs.check.Reads as check-reads
-use Rattle.utils.proofs.u64_from_be_bytes.Reads as u64-from-be-bytes-reads
 
--- src/lib.rt:147:11
 check-requires : tie.Need-check-requires
 check-requires c κs = search needs
 
--- src/lib.rt:148:48
 enum-told : tie.Need-enum-told
 enum-told c = search needs
 
--- src/lib.rt:148:48
 u64-from-be-bytes-requires : tie.Need-u64-from-be-bytes-requires
 u64-from-be-bytes-requires c κs = search needs
 
--- src/lib.rt:149:24
 enum-known-x : tie.Need-enum-known-x
 enum-known-x c = search needs
 
--- src/lib.rt:144:1
 returns : tie.Need-returns
 returns c = let t = c .before in
     let h = t .before .before in
     let a = h .before .before .args in
     rw (c .u64-from-be-bytes .ensures) (time-shown (a .r) (a .v .now) (sym (h .check .ensures) ∙ t .enum-told .given .1))
 
--- src/lib.rt:144:1
 returns-2 : tie.Need-returns-2
 returns-2 c = let x = c .before in
     let h = x .before .before in

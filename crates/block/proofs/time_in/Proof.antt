@@ -1,61 +1,48 @@
+-- `block::time_in` meets its contract: the time of block k of a packet.
 use Rattle.block.proofs.BlockLaws.{time-asked, time-missing}
 use Rattle.xr.proofs.WalkLaws.{located-within}
 use native.Mathlib.Omega.{arith}
-use mathlib.Core.Path.{_≡_, refl, sym, ap, _∙_}
+use mathlib.Core.Path.{sym, _∙_}
 use borrow.Author.Needs.{needs}
 use Rattle.block.proofs.time_in.Statement.{statement}
 use Rattle.block.proofs.time_in.Tie as tie
-use Rattle.block.proofs.time_in.Reads as reads
-use Rattle.block.proofs.time_in.Lts as lts
-use Rattle.block.proofs.time.Reads as time-reads
-use Rattle.xr.proofs.locate.Reads as locate-reads
 
--- src/lib.rt:167:11
 locate-requires : tie.Need-locate-requires
 locate-requires c κs = search needs
 
--- src/lib.rt:168:21
 enum-known-at : tie.Need-enum-known-at
 enum-known-at c = search needs
 
--- src/lib.rt:168:46
 add-time : tie.Need-add-time
 add-time c = let p = c .before in
     let l = p .before .before in
     let a = l .before .before .args in
     omega (arith, located-within (a .r) (a .s .now) (a .k) (p .at .given .0 .0) (p .at .given .0 .1 .0) (sym (l .locate .ensures) ∙ p .at .given .1) .end)
 
--- src/lib.rt:168:39
 sub-time : tie.Need-sub-time
 sub-time c = search needs
 
--- src/lib.rt:168:39
 part-time-start : tie.Need-part-time-start
 part-time-start c = search needs
 
--- src/lib.rt:168:39
 part-time-end : tie.Need-part-time-end
 part-time-end c = let p = c .before in
     let l = p .before .before in
     let a = l .before .before .args in
     omega (arith, located-within (a .r) (a .s .now) (a .k) (p .at .given .0 .0) (p .at .given .0 .1 .0) (sym (l .locate .ensures) ∙ p .at .given .1) .end)
 
--- src/lib.rt:168:31
 time-requires : tie.Need-time-requires
 time-requires c κs = search needs
 
--- src/lib.rt:169:26
 enum-known-x : tie.Need-enum-known-x
 enum-known-x c = search needs
 
--- src/lib.rt:164:1
 returns : tie.Need-returns
 returns c = let p = c .before .before .before in
     let l = p .before .before in
     let a = l .before .before .args in
     c .time .ensures ∙ time-asked (a .r) (a .s .now) (a .k) (p .at .given .0 .0) (p .at .given .0 .1 .0) (sym (l .locate .ensures) ∙ p .at .given .1)
 
--- src/lib.rt:164:1
 returns-2 : tie.Need-returns-2
 returns-2 c = let p = c .before in
     let l = p .before .before in

@@ -1,3 +1,4 @@
+-- `cursor::advance` meets its contract: takes at most budget steps in a block, asked as type t.
 use Rattle.cursor.proofs.AdvanceLaws.{range-fits, words-behind, stretched-fit, stretched-unfit}
 use Rattle.def_standard.specs.Range.{rangeOf}
 use Rattle.def_wire.specs.Block.{fieldsAt}
@@ -5,59 +6,40 @@ use mathlib.Core.Path.{_≡_, sym, ap, _∙_}
 use borrow.Author.Needs.{needs}
 use Rattle.cursor.proofs.advance.Statement.{statement}
 use Rattle.cursor.proofs.advance.Tie as tie
-use Rattle.cursor.proofs.advance.Reads as reads
-use Rattle.cursor.proofs.advance.Lts as lts
-use Rattle.block.proofs.check.Reads as check-reads
-use Rattle.block.proofs.fields_at.Reads as fields-at-reads
-use Rattle.cursor.proofs.advance_words.Reads as advance-words-reads
-use Rattle.cursor.proofs.lesser.Reads as lesser-reads
-use Rattle.rle.proofs.range_of.Reads as range-of-reads
 
--- src/lib.rt:156:11
 check-requires : tie.Need-check-requires
 check-requires c κs = search needs
 
--- src/lib.rt:158:35
 enum-told : tie.Need-enum-told
 enum-told c = search needs
 
--- src/lib.rt:158:35
 fields-at-requires : tie.Need-fields-at-requires
 fields-at-requires c κs = search needs
 
--- src/lib.rt:158:17
 range-of-requires : tie.Need-range-of-requires
 range-of-requires c κs = search needs
 
--- src/lib.rt:159:17
 lesser-requires : tie.Need-lesser-requires
 lesser-requires c κs = search needs
 
--- src/lib.rt:160:27
 sub-advance-words : tie.Need-sub-advance-words
 sub-advance-words c = search needs
 
--- src/lib.rt:160:27
 part-advance-words-start : tie.Need-part-advance-words-start
 part-advance-words-start c = search needs
 
--- src/lib.rt:160:27
 part-advance-words-end : tie.Need-part-advance-words-end
 part-advance-words-end c = search needs
 
--- src/lib.rt:160:13
 advance-words-requires : tie.Need-advance-words-requires
 advance-words-requires c κs = let r = c .before .before .before in rw (r .range-of .ensures) (range-fits (r .before .fields-at .result))
 
--- src/lib.rt:162:24
 enum-known-x : tie.Need-enum-known-x
 enum-known-x c = search needs
 
--- src/lib.rt:153:1
 same-length : tie.Need-same-length
 same-length c = search needs
 
--- src/lib.rt:153:1
 returns : tie.Need-returns
 returns c = let w = c .before .before in
     let b = w .before .before .before in
@@ -68,7 +50,6 @@ returns c = let w = c .before .before in
     stretched-fit (a .t) (a .v .now) (a .c) (a .budget) (a .out .now) (w .advance-words .result) _ (sym (k .check .ensures) ∙ r .before .before .enum-told .given .1)
     (rw (← g, ← words-behind (a .v .now) (b .lesser .result) (b .lesser .ensures)) (w .advance-words .ensures))
 
--- src/lib.rt:153:1
 returns-2 : tie.Need-returns-2
 returns-2 c = let x = c .before in
     let k = x .before .before in

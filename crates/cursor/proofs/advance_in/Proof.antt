@@ -1,3 +1,4 @@
+-- `cursor::advance_in` meets its contract: the same of block k of a packet.
 use Rattle.cursor.proofs.AdvanceLaws.{stretched-at, stretched-missing}
 use Rattle.xr.proofs.WalkLaws.{located-within}
 use Rattle.def_wire.specs.declared.Reading.the-variants.{Standard}
@@ -6,54 +7,40 @@ use native.Mathlib.Omega.{arith}
 use borrow.Author.Needs.{needs}
 use Rattle.cursor.proofs.advance_in.Statement.{statement}
 use Rattle.cursor.proofs.advance_in.Tie as tie
-use Rattle.cursor.proofs.advance_in.Reads as reads
-use Rattle.cursor.proofs.advance_in.Lts as lts
-use Rattle.cursor.proofs.advance.Reads as advance-reads
-use Rattle.xr.proofs.locate.Reads as locate-reads
 
--- src/lib.rt:170:11
 locate-requires : tie.Need-locate-requires
 locate-requires c κs = search needs
 
--- src/lib.rt:171:21
 enum-known-at : tie.Need-enum-known-at
 enum-known-at c = search needs
 
--- src/lib.rt:171:49
 add-advance : tie.Need-add-advance
 add-advance c = let p = c .before in
     let l = p .before .before in
     let a = l .before .before .before .args in
     omega (arith, located-within Standard (a .s .now) (a .k) (p .at .given .0 .0) (p .at .given .0 .1 .0) (sym (l .locate .ensures) ∙ p .at .given .1) .end)
 
--- src/lib.rt:171:42
 sub-advance : tie.Need-sub-advance
 sub-advance c = search needs
 
--- src/lib.rt:171:42
 part-advance-start : tie.Need-part-advance-start
 part-advance-start c = search needs
 
--- src/lib.rt:171:42
 part-advance-end : tie.Need-part-advance-end
 part-advance-end c = let p = c .before in
     let l = p .before .before in
     let a = l .before .before .before .args in
     omega (arith, located-within Standard (a .s .now) (a .k) (p .at .given .0 .0) (p .at .given .0 .1 .0) (sym (l .locate .ensures) ∙ p .at .given .1) .end)
 
--- src/lib.rt:171:31
 advance-requires : tie.Need-advance-requires
 advance-requires c κs = search needs
 
--- src/lib.rt:172:26
 enum-known-x : tie.Need-enum-known-x
 enum-known-x c = search needs
 
--- src/lib.rt:167:1
 same-length : tie.Need-same-length
 same-length c = search needs
 
--- src/lib.rt:167:1
 returns : tie.Need-returns
 returns c = let e = c .before .before in
     let p = e .before .before .before .before in
@@ -61,7 +48,6 @@ returns c = let e = c .before .before in
     let a = l .before .before .before .args in
     stretched-at (a .s .now) (a .k) (a .t) (a .c) (a .budget) (a .out .now) (p .at .given .0 .0) (p .at .given .0 .1 .0) (e .advance .result) _ (sym (l .locate .ensures) ∙ p .at .given .1) (e .advance .ensures)
 
--- src/lib.rt:167:1
 returns-2 : tie.Need-returns-2
 returns-2 c = let p = c .before in
     let l = p .before .before in

@@ -1,3 +1,4 @@
+-- `cursor::advance_words` meets its contract: A stretch of the words in a range.
 use Rattle.cursor.proofs.AdvanceLaws.{advancing-illegal, advancing-full, advancing-gone}
 use Rattle.def_cursor.specs.Cursor.{legal}
 use Rattle.def_wire.specs.Bytes.{words16}
@@ -8,42 +9,32 @@ use mathlib.Core.Path.{_≡_, sym, _∙_}
 use borrow.Author.Needs.{needs}
 use Rattle.cursor.proofs.advance_words.Statement.{statement}
 use Rattle.cursor.proofs.advance_words.Tie as tie
-use Rattle.cursor.proofs.advance_words.Reads as reads
-use Rattle.cursor.proofs.advance_words.Lts as lts
-use Rattle.cursor.proofs.go.Reads as go-reads
-use Rattle.cursor.proofs.is_legal.Reads as is-legal-reads
 
 -- the cursor is legal
 stands : (c : tie.Else1) → let a = c .before .before .before .before .args in legal (words16 (a .bytes .now)) (a .c) ≡ true
 stands c = sym (c .before .is-legal .ensures) ∙ not-false _ (c .if1 .left)
 
--- src/lib.rt:141:9
 is-legal-requires : tie.Need-is-legal-requires
 is-legal-requires c κs = search needs
 
--- src/lib.rt:142:9
 returns : tie.Need-returns
 returns c = let k = c .before in
     let a = k .before .before .before .args in
     advancing-illegal (a .g) (words16 (a .bytes .now)) (a .c) (a .budget) (a .out .now) (sym (k .is-legal .ensures) ∙ not-true _ (c .if1 .taken))
 
--- src/lib.rt:145:9
 returns-2 : tie.Need-returns-2
 returns-2 c = let k = c .before .before in
     let a = k .before .before .before .args in
     advancing-full (a .g) (words16 (a .bytes .now)) (a .c) (a .budget) (a .out .now) (stands (c .before)) (c .if2 .taken)
 
--- src/lib.rt:147:21
 go-requires : tie.Need-go-requires
 go-requires c κs = let e = c .before in
     let s = e .before .before .before .before .before in
     (s .pre, (stands (e .before), omega (arith, e .if2 .left)))
 
--- src/lib.rt:137:1
 same-length : tie.Need-same-length
 same-length c = search needs
 
--- src/lib.rt:137:1
 returns-3 : tie.Need-returns-3
 returns-3 c = let r = c .before .before in
     let e = r .before .before in

@@ -1,3 +1,4 @@
+-- `cursor::go` meets its contract: at most budget steps from a legal cursor, word by word.
 use Rattle.cursor.proofs.PlacesLaws.{along-same}
 use Rattle.cursor.proofs.GoTurn.{Going, begin-going, going-on, going-listed, gone-end, gone-done}
 use Rattle.cursor.proofs.StepsLaws.{listed-le}

@@ -1,3 +1,4 @@
+-- `cursor::steps_in` meets its contract: how many steps a word takes.
 use Rattle.cursor.proofs.LegalLaws.{steps-none, steps-some}
 use Rattle.def_standard.specs.Chunks.{coversOf}
 use Prim.Native.Nat.{_<_}
@@ -6,23 +7,16 @@ use native.Mathlib.Omega.{arith}
 use borrow.Author.Needs.{needs}
 use Rattle.cursor.proofs.steps_in.Statement.{statement}
 use Rattle.cursor.proofs.steps_in.Tie as tie
-use Rattle.cursor.proofs.steps_in.Reads as reads
-use Rattle.cursor.proofs.steps_in.Lts as lts
-use Rattle.chunk.proofs.covers.Reads as covers-reads
 
--- src/lib.rt:49:19
 covers-requires : tie.Need-covers-requires
 covers-requires c κs = search needs
 
--- src/lib.rt:49:19
 cast-covered : tie.Need-cast-covered
 cast-covered c = search needs
 
--- src/lib.rt:46:1
 returns : tie.Need-returns
 returns c = sym (steps-none (c .before .before .args .w) (sym (c .before .covers .ensures) ∙ c .if1 .taken))
 
--- src/lib.rt:46:1
 returns-2 : tie.Need-returns-2
 returns-2 c = let w = c .before .before .args .w in
     let h : 0 < coversOf w = omega (arith, c .before .covers .ensures, c .if1 .left) in

@@ -1,3 +1,4 @@
+-- `dlrr::count` meets its contract: how many whole entries a view has behind its four header bytes.
 use Rattle.dlrr.proofs.EntriesLaws.{length-entries}
 use native.Mathlib.Omega.{arith}
 use lib.ListN.{length}
@@ -6,19 +7,14 @@ use mathlib.Core.Path.{_≡_, sym, _∙_}
 use borrow.Author.Needs.{needs}
 use Rattle.dlrr.proofs.count.Statement.{statement}
 use Rattle.dlrr.proofs.count.Tie as tie
-use Rattle.dlrr.proofs.count.Reads as reads
-use Rattle.dlrr.proofs.count.Lts as lts
 
--- src/lib.rt:32:9
 returns : tie.Need-returns
 returns c = let v = c .before .args .v .now in
     (let h : 0 ≡ (length v - 4) / 12 = omega arith in h) ∙ sym (length-entries v)
 
--- src/lib.rt:34:6
 sub-result : tie.Need-sub-result
 sub-result c = search needs
 
--- src/lib.rt:28:1
 returns-2 : tie.Need-returns-2
 returns-2 c = sym (length-entries (c .before .args .v .now))
 

@@ -1,40 +1,29 @@
+-- `dlrr::entries` meets its contract: the entries of a block's view.
 use Rattle.dlrr.proofs.EntriesLaws.{entries-fine, entries-unfit, entries-listed, entries-full, entries-refused}
 use Rattle.def_standard.specs.Standard.{entriesOf}
 use native.Mathlib.Omega.{arith}
 use lib.ListN.{length}
 use Prim.Native.Nat.{ℕ, min}
-use mathlib.Core.Path.{_≡_, refl, sym, ap, _∙_}
+use mathlib.Core.Path.{sym, ap, _∙_}
 use borrow.Author.Needs.{needs}
 use Rattle.dlrr.proofs.entries.Statement.{statement}
 use Rattle.dlrr.proofs.entries.Tie as tie
-use Rattle.dlrr.proofs.entries.Reads as reads
-use Rattle.dlrr.proofs.entries.Lts as lts
-use Rattle.block.proofs.check.Reads as check-reads
-use Rattle.dlrr.proofs.count.Reads as count-reads
-use Rattle.dlrr.proofs.lesser.Reads as lesser-reads
-use Rattle.dlrr.proofs.store.Reads as store-reads
 
--- src/lib.rt:73:11
 check-requires : tie.Need-check-requires
 check-requires c κs = search needs
 
--- src/lib.rt:75:17
 enum-told : tie.Need-enum-told
 enum-told c = search needs
 
--- src/lib.rt:75:17
 count-requires : tie.Need-count-requires
 count-requires c κs = search needs
 
--- src/lib.rt:76:31
 lesser-requires : tie.Need-lesser-requires
 lesser-requires c κs = search needs
 
--- src/lib.rt:76:17
 lesser-requires-2 : tie.Need-lesser-requires-2
 lesser-requires-2 c κs = search needs
 
--- src/lib.rt:78:17
 returns : tie.Need-returns
 returns c = let r = c .before in
     let n = r .before .before in
@@ -43,27 +32,21 @@ returns c = let r = c .before in
     let a = h .before .before .before .before .before .args in
     entries-full _ (a .ssrcs .now) (a .lasts .now) (a .delays .now) (entriesOf (a .v .now)) (n .count .result) (r .lesser2 .result) (entries-fine (a .r) (a .v .now) (sym (h .check .ensures) ∙ t .enum-told .given .1)) (n .count .ensures) (r .lesser2 .ensures ∙ ap (λ (x : ℕ). min x (length (a .delays .now))) (r .before .lesser .ensures)) (c .if1 .taken)
 
--- src/lib.rt:80:13
 store-requires : tie.Need-store-requires
 store-requires c κs = search needs
 
--- src/lib.rt:83:24
 enum-known-x : tie.Need-enum-known-x
 enum-known-x c = search needs
 
--- src/lib.rt:64:1
 same-length : tie.Need-same-length
 same-length c = search needs
 
--- src/lib.rt:64:1
 same-length-2 : tie.Need-same-length-2
 same-length-2 c = search needs
 
--- src/lib.rt:64:1
 same-length-3 : tie.Need-same-length-3
 same-length-3 c = search needs
 
--- src/lib.rt:64:1
 returns-2 : tie.Need-returns-2
 returns-2 c = let st = c .before .before .before .before .before .before in
     let e = st .before .before .before .before in
@@ -74,7 +57,6 @@ returns-2 c = let st = c .before .before .before .before .before .before in
     let a = h .before .before .before .before .before .args in
     entries-listed _ (a .ssrcs .now) (a .lasts .now) (a .delays .now) (entriesOf (a .v .now)) (n .count .result) _ _ _ (entries-fine (a .r) (a .v .now) (sym (h .check .ensures) ∙ t .enum-told .given .1)) (n .count .ensures) (omega (arith, e .if1 .left, r .lesser2 .ensures, r .before .lesser .ensures)) (st .store .ensures)
 
--- src/lib.rt:64:1
 returns-3 : tie.Need-returns-3
 returns-3 c = let x = c .before in
     let h = x .before .before in

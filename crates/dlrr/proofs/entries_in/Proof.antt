@@ -1,66 +1,51 @@
+-- `dlrr::entries_in` meets its contract: the entries of block k of a packet.
 use Rattle.dlrr.proofs.EntriesLaws.{entries-asked, entries-missing, entries-refused}
 use Rattle.xr.proofs.WalkLaws.{located-within}
 use native.Mathlib.Omega.{arith}
-use mathlib.Core.Path.{_≡_, refl, sym, ap, _∙_}
+use mathlib.Core.Path.{sym, _∙_}
 use borrow.Author.Needs.{needs}
 use Rattle.dlrr.proofs.entries_in.Statement.{statement}
 use Rattle.dlrr.proofs.entries_in.Tie as tie
-use Rattle.dlrr.proofs.entries_in.Reads as reads
-use Rattle.dlrr.proofs.entries_in.Lts as lts
-use Rattle.dlrr.proofs.entries.Reads as entries-reads
-use Rattle.xr.proofs.locate.Reads as locate-reads
 
--- src/lib.rt:98:11
 locate-requires : tie.Need-locate-requires
 locate-requires c κs = search needs
 
--- src/lib.rt:99:21
 enum-known-at : tie.Need-enum-known-at
 enum-known-at c = search needs
 
--- src/lib.rt:99:49
 add-entries : tie.Need-add-entries
 add-entries c = let p = c .before in
     let l = p .before .before in
     let a = l .before .before .before .before .before .args in
     omega (arith, located-within (a .r) (a .s .now) (a .k) (p .at .given .0 .0) (p .at .given .0 .1 .0) (sym (l .locate .ensures) ∙ p .at .given .1) .end)
 
--- src/lib.rt:99:42
 sub-entries : tie.Need-sub-entries
 sub-entries c = search needs
 
--- src/lib.rt:99:42
 part-entries-start : tie.Need-part-entries-start
 part-entries-start c = search needs
 
--- src/lib.rt:99:42
 part-entries-end : tie.Need-part-entries-end
 part-entries-end c = let p = c .before in
     let l = p .before .before in
     let a = l .before .before .before .before .before .args in
     omega (arith, located-within (a .r) (a .s .now) (a .k) (p .at .given .0 .0) (p .at .given .0 .1 .0) (sym (l .locate .ensures) ∙ p .at .given .1) .end)
 
--- src/lib.rt:99:31
 entries-requires : tie.Need-entries-requires
 entries-requires c κs = search needs
 
--- src/lib.rt:100:26
 enum-known-x : tie.Need-enum-known-x
 enum-known-x c = search needs
 
--- src/lib.rt:88:1
 same-length : tie.Need-same-length
 same-length c = search needs
 
--- src/lib.rt:88:1
 same-length-2 : tie.Need-same-length-2
 same-length-2 c = search needs
 
--- src/lib.rt:88:1
 same-length-3 : tie.Need-same-length-3
 same-length-3 c = search needs
 
--- src/lib.rt:88:1
 returns : tie.Need-returns
 returns c = let e = c .before .before .before .before .before .before in
     let p = e .before .before .before .before .before .before in
@@ -68,7 +53,6 @@ returns c = let e = c .before .before .before .before .before .before in
     let a = l .before .before .before .before .before .args in
     rw (entries-asked (a .r) (a .s .now) (a .k) (p .at .given .0 .0) (p .at .given .0 .1 .0) (sym (l .locate .ensures) ∙ p .at .given .1)) (e .entries .ensures)
 
--- src/lib.rt:88:1
 returns-2 : tie.Need-returns-2
 returns-2 c = let p = c .before in
     let l = p .before .before in

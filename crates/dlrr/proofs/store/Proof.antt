@@ -1,13 +1,10 @@
+-- `dlrr::store` meets its contract: stores n entries from the front of each list.
 use Rattle.dlrr.proofs.EntriesTurn.{Storing, begun, whole, room-ssrcs, room-lasts, room-delays, turned, ended}
 use borrow.Author.Needs.{needs}
 use native.Mathlib.Omega.{arith}
-use mathlib.Core.Path.{_≡_, sym, _∙_}
 use Prim.Native.Nat.{_-_}
 use Rattle.dlrr.proofs.store.Statement.{statement}
 use Rattle.dlrr.proofs.store.Tie as tie
-use Rattle.dlrr.proofs.store.Reads as reads
-use Rattle.dlrr.proofs.store.Lts as lts
-use Rattle.dlrr.proofs.entry.Reads as entry-reads
 
 abbrev Inv-loop : tie.InvT-loop
 Inv-loop v n ssrcs₀ lasts₀ delays₀ i₀ at₀ ssrcs lasts delays i at = Storing v ssrcs₀ lasts₀ delays₀ ssrcs lasts delays i at
@@ -15,24 +12,20 @@ Inv-loop v n ssrcs₀ lasts₀ delays₀ i₀ at₀ ssrcs lasts delays i at = St
 abbrev μ-loop : tie.MeasureT-loop
 μ-loop v n ssrcs₀ lasts₀ delays₀ i₀ at₀ ssrcs lasts delays i at = n - i
 
--- src/lib.rt:45:5
 loop-holds : tie.Need-loop-holds Inv-loop μ-loop
 loop-holds c = let b = c .before .before .before .before in
     let a = b .args in
     begun (a .v .now) (a .ssrcs .now) (a .lasts .now) (a .delays .now) (a .n) (b .pre .0) (b .pre .1)
 
--- src/lib.rt:46:13
 entry-requires : tie.Need-entry-requires Inv-loop μ-loop
 entry-requires c κs = let l = c .before in
     let b = l .before .before .before .before .before in
     let a = b .args in
     whole (a .v .now) (a .ssrcs .now) (a .lasts .now) (a .delays .now) (a .n) (b .pre .0) (l .loop .ssrcs) (l .loop .lasts) (l .loop .delays) (l .loop .i) (l .loop .at) (l .loop .inv) (c .loop-test .taken)
 
--- src/lib.rt:49:9
 mul-ssrcs : tie.Need-mul-ssrcs Inv-loop μ-loop
 mul-ssrcs c = search needs
 
--- src/lib.rt:49:9
 slice-write-ssrcs : tie.Need-slice-write-ssrcs Inv-loop μ-loop
 slice-write-ssrcs c = let t = c .before .before .before in
     let l = t .before in
@@ -40,11 +33,9 @@ slice-write-ssrcs c = let t = c .before .before .before in
     let a = b .args in
     room-ssrcs (a .v .now) (a .ssrcs .now) (a .lasts .now) (a .delays .now) (a .n) (b .pre .0) (l .loop .ssrcs) (l .loop .lasts) (l .loop .delays) (l .loop .i) (l .loop .at) (l .loop .inv) (t .loop-test .taken)
 
--- src/lib.rt:50:9
 mul-lasts : tie.Need-mul-lasts Inv-loop μ-loop
 mul-lasts c = search needs
 
--- src/lib.rt:50:9
 slice-write-lasts : tie.Need-slice-write-lasts Inv-loop μ-loop
 slice-write-lasts c = let t = c .before .before .before in
     let l = t .before in
@@ -52,11 +43,9 @@ slice-write-lasts c = let t = c .before .before .before in
     let a = b .args in
     room-lasts (a .v .now) (a .ssrcs .now) (a .lasts .now) (a .delays .now) (a .n) (b .pre .0) (l .loop .ssrcs) (l .loop .lasts) (l .loop .delays) (l .loop .i) (l .loop .at) (l .loop .inv) (t .loop-test .taken)
 
--- src/lib.rt:51:9
 mul-delays : tie.Need-mul-delays Inv-loop μ-loop
 mul-delays c = search needs
 
--- src/lib.rt:51:9
 slice-write-delays : tie.Need-slice-write-delays Inv-loop μ-loop
 slice-write-delays c = let t = c .before .before .before in
     let l = t .before in
@@ -64,11 +53,9 @@ slice-write-delays c = let t = c .before .before .before in
     let a = b .args in
     room-delays (a .v .now) (a .ssrcs .now) (a .lasts .now) (a .delays .now) (a .n) (b .pre .0) (l .loop .ssrcs) (l .loop .lasts) (l .loop .delays) (l .loop .i) (l .loop .at) (l .loop .inv) (t .loop-test .taken)
 
--- src/lib.rt:52:9
 add-i : tie.Need-add-i Inv-loop μ-loop
 add-i c = search needs
 
--- src/lib.rt:53:9
 add-at : tie.Need-add-at Inv-loop μ-loop
 add-at c = let t = c .before .before .before in
     let l = t .before in
@@ -76,11 +63,9 @@ add-at c = let t = c .before .before .before in
     let a = b .args in
     omega (arith, whole (a .v .now) (a .ssrcs .now) (a .lasts .now) (a .delays .now) (a .n) (b .pre .0) (l .loop .ssrcs) (l .loop .lasts) (l .loop .delays) (l .loop .i) (l .loop .at) (l .loop .inv) (t .loop-test .taken))
 
--- src/lib.rt:45:5
 loop-less : tie.Need-loop-less Inv-loop μ-loop
 loop-less c = search needs
 
--- src/lib.rt:45:5
 loop-again : tie.Need-loop-again Inv-loop μ-loop
 loop-again c = let e = c .before .before in
     let t = e .before in
@@ -89,19 +74,15 @@ loop-again c = let e = c .before .before in
     let a = b .args in
     turned (a .v .now) (a .ssrcs .now) (a .lasts .now) (a .delays .now) (a .n) (b .pre .0) (l .loop .ssrcs) (l .loop .lasts) (l .loop .delays) (l .loop .i) (l .loop .at) (l .loop .inv) (t .loop-test .taken) (e .entry .result) (e .entry .ensures)
 
--- src/lib.rt:38:1
 same-length : tie.Need-same-length Inv-loop μ-loop
 same-length c = search needs
 
--- src/lib.rt:38:1
 same-length-2 : tie.Need-same-length-2 Inv-loop μ-loop
 same-length-2 c = search needs
 
--- src/lib.rt:38:1
 same-length-3 : tie.Need-same-length-3 Inv-loop μ-loop
 same-length-3 c = search needs
 
--- src/lib.rt:38:1
 returns : tie.Need-returns Inv-loop μ-loop
 returns c = let l = c .before in
     let b = l .before .before .before .before .before in

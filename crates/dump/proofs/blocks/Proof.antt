@@ -1,13 +1,10 @@
+-- `dump::blocks` meets its contract: the blocks of an accepted packet, one after the other.
 use borrow.Author.Needs.{needs}
-use Prim.Native.Nat.{_≤_, _-_, _<_}
+use Prim.Native.Nat.{_≤_, _-_}
 use mathlib.Core.Path.{_≡_}
 use lib.ListN.{length}
 use Rattle.dump.proofs.blocks.Statement.{statement}
 use Rattle.dump.proofs.blocks.Tie as tie
-use Rattle.dump.proofs.blocks.Reads as reads
-use Rattle.dump.proofs.blocks.Lts as lts
-use Rattle.dump.proofs.one_block.Reads as one-block-reads
-use Rattle.reader.proofs.moved_from.Reads as moved-from-reads
 
 abbrev Inv-loop : tie.InvT-loop
 Inv-loop r packet count buf₀ at numbers₀ a₀ b₀ c₀ k₀ place₀ n₀ buf numbers a b c k place n = (k ≤ count) × (n ≤ length buf₀) × (length buf ≡ length buf₀) × (length numbers ≡ length numbers₀) × (length a ≡ length a₀) × (length b ≡ length b₀) × (length c ≡ length c₀)
@@ -15,51 +12,39 @@ Inv-loop r packet count buf₀ at numbers₀ a₀ b₀ c₀ k₀ place₀ n₀ b
 abbrev μ-loop : tie.MeasureT-loop
 μ-loop r packet count buf₀ at numbers₀ a₀ b₀ c₀ k₀ place₀ n₀ buf numbers a b c k place n = count - k
 
--- src/lib.rt:236:5
 loop-holds : tie.Need-loop-holds Inv-loop μ-loop
 loop-holds c = search needs
 
--- src/lib.rt:237:9
 one-block-requires : tie.Need-one-block-requires Inv-loop μ-loop
 one-block-requires c κs = search needs
 
--- src/lib.rt:238:9
 moved-from-requires : tie.Need-moved-from-requires Inv-loop μ-loop
 moved-from-requires c κs = search needs
 
--- src/lib.rt:239:9
 add-k : tie.Need-add-k Inv-loop μ-loop
 add-k c = search needs
 
--- src/lib.rt:236:5
 loop-less : tie.Need-loop-less Inv-loop μ-loop
 loop-less c = search needs
 
--- src/lib.rt:236:5
 loop-again : tie.Need-loop-again Inv-loop μ-loop
 loop-again c = search needs
 
--- src/lib.rt:219:1
 same-length : tie.Need-same-length Inv-loop μ-loop
 same-length c = search needs
 
--- src/lib.rt:219:1
 same-length-2 : tie.Need-same-length-2 Inv-loop μ-loop
 same-length-2 c = search needs
 
--- src/lib.rt:219:1
 same-length-3 : tie.Need-same-length-3 Inv-loop μ-loop
 same-length-3 c = search needs
 
--- src/lib.rt:219:1
 same-length-4 : tie.Need-same-length-4 Inv-loop μ-loop
 same-length-4 c = search needs
 
--- src/lib.rt:219:1
 same-length-5 : tie.Need-same-length-5 Inv-loop μ-loop
 same-length-5 c = search needs
 
--- src/lib.rt:219:1
 returns : tie.Need-returns Inv-loop μ-loop
 returns c = search needs
 

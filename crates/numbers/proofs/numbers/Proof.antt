@@ -1,3 +1,4 @@
+-- `numbers::numbers` meets its contract: the numbers of a block's view, asked as type t.
 use Rattle.def_standard.specs.declared.Range.{Range}
 use Rattle.def_wire.specs.Bytes.{words16}
 use Rattle.numbers.proofs.AskedLaws.{numbers-standard, numbers-crate, numbers-unfit, listed-as}
@@ -5,64 +6,44 @@ use Rattle.laws.proofs.Answering.{turned-away}
 use Rattle.def_standard.specs.Standard.{numbersOf}
 use Rattle.def_refusals.specs.Answers.{shown}
 use native.Mathlib.Omega.{arith}
-use mathlib.Core.Path.{_≡_, refl, sym, ap, _∙_}
+use mathlib.Core.Path.{sym, ap, _∙_}
 use borrow.Author.Needs.{needs}
 use Rattle.numbers.proofs.numbers.Statement.{statement}
 use Rattle.numbers.proofs.numbers.Tie as tie
-use Rattle.numbers.proofs.numbers.Reads as reads
-use Rattle.numbers.proofs.numbers.Lts as lts
-use Rattle.block.proofs.check.Reads as check-reads
-use Rattle.block.proofs.fields_at.Reads as fields-at-reads
-use Rattle.numbers.proofs.word_bytes.Reads as word-bytes-reads
-use Rattle.rle.proofs.fill_crate.Reads as fill-crate-reads
-use Rattle.rle.proofs.fill_standard.Reads as fill-standard-reads
-use Rattle.rle.proofs.range_of.Reads as range-of-reads
 
--- src/lib.rt:61:11
 check-requires : tie.Need-check-requires
 check-requires c κs = search needs
 
--- src/lib.rt:63:17
 enum-told : tie.Need-enum-told
 enum-told c = search needs
 
--- src/lib.rt:63:17
 fields-at-requires : tie.Need-fields-at-requires
 fields-at-requires c κs = search needs
 
--- src/lib.rt:64:17
 word-bytes-requires : tie.Need-word-bytes-requires
 word-bytes-requires c κs = search needs
 
--- src/lib.rt:66:64
 enum-told-2 : tie.Need-enum-told-2
 enum-told-2 c = search needs
 
--- src/lib.rt:66:64
 range-of-requires : tie.Need-range-of-requires
 range-of-requires c κs = search needs
 
--- src/lib.rt:66:38
 fill-standard-requires : tie.Need-fill-standard-requires
 fill-standard-requires c κs = search needs
 
--- src/lib.rt:67:86
 enum-told-3 : tie.Need-enum-told-3
 enum-told-3 c = search needs
 
--- src/lib.rt:67:35
 fill-crate-requires : tie.Need-fill-crate-requires
 fill-crate-requires c κs = search needs
 
--- src/lib.rt:70:24
 enum-known-x : tie.Need-enum-known-x
 enum-known-x c = search needs
 
--- src/lib.rt:58:1
 same-length : tie.Need-same-length
 same-length c = search needs
 
--- src/lib.rt:58:1
 returns : tie.Need-returns
 returns c = let fs = c .before .before in
     let g = fs .before .before in
@@ -74,11 +55,9 @@ returns c = let fs = c .before .before in
     let e = numbers-standard (a .r) (a .t) (a .v .now) (sym (h .check .ensures) ∙ f .before .enum-told .given .1) (f .fields-at .result) _ (f .fields-at .ensures) (w .word-bytes .ensures) (t .enum-told2 .given .1) in
     listed-as (ap (λ (q : Range). shown (numbersOf q (words16 (w .word-bytes .result .now)))) (g .range-of .ensures) ∙ e) (fs .fill-standard .ensures)
 
--- src/lib.rt:58:1
 same-length-2 : tie.Need-same-length-2
 same-length-2 c = search needs
 
--- src/lib.rt:58:1
 returns-2 : tie.Need-returns-2
 returns-2 c = let fs = c .before .before in
     let t = fs .before .before in
@@ -88,7 +67,6 @@ returns-2 c = let fs = c .before .before in
     let a = h .before .before .before .args in
     listed-as (numbers-crate (a .r) (a .t) (a .v .now) (sym (h .check .ensures) ∙ f .before .enum-told .given .1) (f .fields-at .result) (w .word-bytes .result .now) (f .fields-at .ensures) (w .word-bytes .ensures) (t .enum-told3 .given .1) (omega (arith, h .before .before .shared-slice-known .given 2, h .before .before .shared-slice-known .given 3))) (fs .fill-crate .ensures)
 
--- src/lib.rt:58:1
 returns-3 : tie.Need-returns-3
 returns-3 c = let x = c .before in
     let h = x .before .before in

@@ -1,59 +1,46 @@
+-- `numbers::numbers_in` meets its contract: the numbers of block k of a packet.
 use Rattle.numbers.proofs.AskedLaws.{numbers-asked, numbers-missing, listed-as}
 use Rattle.laws.proofs.Answering.{turned-away}
 use Rattle.xr.proofs.WalkLaws.{located-within}
 use native.Mathlib.Omega.{arith}
-use mathlib.Core.Path.{_≡_, refl, sym, ap, _∙_}
+use mathlib.Core.Path.{sym, _∙_}
 use borrow.Author.Needs.{needs}
 use Rattle.numbers.proofs.numbers_in.Statement.{statement}
 use Rattle.numbers.proofs.numbers_in.Tie as tie
-use Rattle.numbers.proofs.numbers_in.Reads as reads
-use Rattle.numbers.proofs.numbers_in.Lts as lts
-use Rattle.numbers.proofs.numbers.Reads as numbers-reads
-use Rattle.xr.proofs.locate.Reads as locate-reads
 
--- src/lib.rt:88:11
 locate-requires : tie.Need-locate-requires
 locate-requires c κs = search needs
 
--- src/lib.rt:89:21
 enum-known-at : tie.Need-enum-known-at
 enum-known-at c = search needs
 
--- src/lib.rt:89:52
 add-numbers : tie.Need-add-numbers
 add-numbers c = let p = c .before in
     let l = p .before .before in
     let a = l .before .before .before .args in
     omega (arith, located-within (a .r) (a .s .now) (a .k) (p .at .given .0 .0) (p .at .given .0 .1 .0) (sym (l .locate .ensures) ∙ p .at .given .1) .end)
 
--- src/lib.rt:89:45
 sub-numbers : tie.Need-sub-numbers
 sub-numbers c = search needs
 
--- src/lib.rt:89:45
 part-numbers-start : tie.Need-part-numbers-start
 part-numbers-start c = search needs
 
--- src/lib.rt:89:45
 part-numbers-end : tie.Need-part-numbers-end
 part-numbers-end c = let p = c .before in
     let l = p .before .before in
     let a = l .before .before .before .args in
     omega (arith, located-within (a .r) (a .s .now) (a .k) (p .at .given .0 .0) (p .at .given .0 .1 .0) (sym (l .locate .ensures) ∙ p .at .given .1) .end)
 
--- src/lib.rt:89:31
 numbers-requires : tie.Need-numbers-requires
 numbers-requires c κs = search needs
 
--- src/lib.rt:90:26
 enum-known-x : tie.Need-enum-known-x
 enum-known-x c = search needs
 
--- src/lib.rt:85:1
 same-length : tie.Need-same-length
 same-length c = search needs
 
--- src/lib.rt:85:1
 returns : tie.Need-returns
 returns c = let e = c .before .before in
     let p = e .before .before .before .before in
@@ -61,7 +48,6 @@ returns c = let e = c .before .before in
     let a = l .before .before .before .args in
     listed-as (sym (numbers-asked (a .r) (a .s .now) (a .k) (a .t) (p .at .given .0 .0) (p .at .given .0 .1 .0) (sym (l .locate .ensures) ∙ p .at .given .1))) (e .numbers .ensures)
 
--- src/lib.rt:85:1
 returns-2 : tie.Need-returns-2
 returns-2 c = let p = c .before in
     let l = p .before .before in

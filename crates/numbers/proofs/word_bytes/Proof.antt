@@ -1,50 +1,36 @@
+-- `numbers::word_bytes` meets its contract: the bytes of the words that a reading reads.
 use Rattle.numbers.proofs.AskedLaws.{bytes-standard, bytes-crate}
-use mathlib.Core.Path.{_≡_, refl, sym, ap, _∙_}
+use mathlib.Core.Path.{_∙_}
 use borrow.Author.Needs.{needs}
 use Rattle.numbers.proofs.word_bytes.Statement.{statement}
 use Rattle.numbers.proofs.word_bytes.Tie as tie
-use Rattle.numbers.proofs.word_bytes.Reads as reads
-use Rattle.numbers.proofs.word_bytes.Lts as lts
-use Rattle.numbers.proofs.body.Reads as body-reads
-use Rattle.numbers.proofs.first.Reads as first-reads
-use Rattle.numbers.proofs.less_14.Reads as less-14-reads
-use Rattle.numbers.proofs.says.Reads as says-reads
 
--- src/lib.rt:52:30
 enum-told : tie.Need-enum-told
 enum-told c = search needs
 
--- src/lib.rt:52:30
 body-requires : tie.Need-body-requires
 body-requires c κs = search needs
 
--- src/lib.rt:53:33
 enum-told-2 : tie.Need-enum-told-2
 enum-told-2 c = search needs
 
--- src/lib.rt:53:33
 body-requires-2 : tie.Need-body-requires-2
 body-requires-2 c κs = search needs
 
--- src/lib.rt:53:50
 says-requires : tie.Need-says-requires
 says-requires c κs = search needs
 
--- src/lib.rt:53:42
 less-14-requires : tie.Need-less-14-requires
 less-14-requires c κs = search needs
 
--- src/lib.rt:53:27
 first-requires : tie.Need-first-requires
 first-requires c κs = search needs
 
--- src/lib.rt:48:1
 returns : tie.Need-returns
 returns c = let t = c .before in
     let a = t .before .before .before .args in
     c .body .ensures ∙ bytes-standard (a .r) (a .v .now) (t .enum-told .given .1)
 
--- src/lib.rt:48:1
 returns-2 : tie.Need-returns-2
 returns-2 c = let l = c .before in
     let s = l .before in

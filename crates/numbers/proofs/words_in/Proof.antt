@@ -1,59 +1,46 @@
+-- `numbers::words_in` meets its contract: the chunk words of block k of a packet.
 use Rattle.numbers.proofs.AskedLaws.{words-asked, words-missing, listed-as}
 use Rattle.laws.proofs.Answering.{turned-away}
 use Rattle.xr.proofs.WalkLaws.{located-within}
 use native.Mathlib.Omega.{arith}
-use mathlib.Core.Path.{_≡_, refl, sym, ap, _∙_}
+use mathlib.Core.Path.{sym, _∙_}
 use borrow.Author.Needs.{needs}
 use Rattle.numbers.proofs.words_in.Statement.{statement}
 use Rattle.numbers.proofs.words_in.Tie as tie
-use Rattle.numbers.proofs.words_in.Reads as reads
-use Rattle.numbers.proofs.words_in.Lts as lts
-use Rattle.numbers.proofs.words.Reads as words-reads
-use Rattle.xr.proofs.locate.Reads as locate-reads
 
--- src/lib.rt:98:11
 locate-requires : tie.Need-locate-requires
 locate-requires c κs = search needs
 
--- src/lib.rt:99:21
 enum-known-at : tie.Need-enum-known-at
 enum-known-at c = search needs
 
--- src/lib.rt:99:50
 add-words : tie.Need-add-words
 add-words c = let p = c .before in
     let l = p .before .before in
     let a = l .before .before .before .args in
     omega (arith, located-within (a .r) (a .s .now) (a .k) (p .at .given .0 .0) (p .at .given .0 .1 .0) (sym (l .locate .ensures) ∙ p .at .given .1) .end)
 
--- src/lib.rt:99:43
 sub-words : tie.Need-sub-words
 sub-words c = search needs
 
--- src/lib.rt:99:43
 part-words-start : tie.Need-part-words-start
 part-words-start c = search needs
 
--- src/lib.rt:99:43
 part-words-end : tie.Need-part-words-end
 part-words-end c = let p = c .before in
     let l = p .before .before in
     let a = l .before .before .before .args in
     omega (arith, located-within (a .r) (a .s .now) (a .k) (p .at .given .0 .0) (p .at .given .0 .1 .0) (sym (l .locate .ensures) ∙ p .at .given .1) .end)
 
--- src/lib.rt:99:31
 words-requires : tie.Need-words-requires
 words-requires c κs = search needs
 
--- src/lib.rt:100:26
 enum-known-x : tie.Need-enum-known-x
 enum-known-x c = search needs
 
--- src/lib.rt:95:1
 same-length : tie.Need-same-length
 same-length c = search needs
 
--- src/lib.rt:95:1
 returns : tie.Need-returns
 returns c = let e = c .before .before in
     let p = e .before .before .before .before in
@@ -61,7 +48,6 @@ returns c = let e = c .before .before in
     let a = l .before .before .before .args in
     listed-as (sym (words-asked (a .r) (a .s .now) (a .k) (a .t) (p .at .given .0 .0) (p .at .given .0 .1 .0) (sym (l .locate .ensures) ∙ p .at .given .1))) (e .words .ensures)
 
--- src/lib.rt:95:1
 returns-2 : tie.Need-returns-2
 returns-2 c = let p = c .before in
     let l = p .before .before in

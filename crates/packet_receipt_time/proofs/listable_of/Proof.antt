@@ -1,43 +1,32 @@
+-- `packet_receipt_time::listable_of` meets its contract: how many positions a reading lists from the first on, whatever times there are.
 use Rattle.packet_receipt_time.proofs.PairsAnswers.{listable-standard, listable-crate}
 use Rattle.rle.specs.Inside.{insideCount}
-use mathlib.Core.Path.{_≡_, sym, ap, _∙_}
+use mathlib.Core.Path.{ap, _∙_}
 use borrow.Author.Needs.{needs}
 use Rattle.packet_receipt_time.proofs.listable_of.Statement.{statement}
 use Rattle.packet_receipt_time.proofs.listable_of.Tie as tie
-use Rattle.packet_receipt_time.proofs.listable_of.Reads as reads
-use Rattle.packet_receipt_time.proofs.listable_of.Lts as lts
-use Rattle.rle.proofs.first_fail.Reads as first-fail-reads
-use Rattle.rle.proofs.inside_count.Reads as inside-count-reads
-use Rattle.rle.proofs.range_of.Reads as range-of-reads
 
--- src/lib.rt:45:48
 enum-told : tie.Need-enum-told
 enum-told c = search needs
 
--- src/lib.rt:45:48
 range-of-requires : tie.Need-range-of-requires
 range-of-requires c κs = search needs
 
--- src/lib.rt:45:30
 inside-count-requires : tie.Need-inside-count-requires
 inside-count-requires c κs = search needs
 
--- src/lib.rt:46:27
 enum-told-2 : tie.Need-enum-told-2
 enum-told-2 c = search needs
 
--- src/lib.rt:46:27
 first-fail-requires : tie.Need-first-fail-requires
 first-fail-requires c κs = search needs
 
--- src/lib.rt:41:1
 returns : tie.Need-returns
 returns c = let g = c .before in
     let t = g .before in
     let a = t .before .before .args in
     c .inside-count .ensures ∙ ap insideCount (g .range-of .ensures) ∙ listable-standard (a .r) (a .f) (t .enum-told .given .1)
 
--- src/lib.rt:41:1
 returns-2 : tie.Need-returns-2
 returns-2 c = let t = c .before in
     let a = t .before .before .args in

@@ -1,6 +1,6 @@
 -- `packet_receipt_time::pairs` meets its contract.
-use Prim.Native.Nat.{ℕ, _*_, _<_, _≤_, min}
-use mathlib.Core.Path.{_≡_, refl, sym, ap, _∙_}
+use Prim.Native.Nat.{ℕ, _≤_, min}
+use mathlib.Core.Path.{_≡_, refl, sym, _∙_}
 use mathlib.Core.List.{List}
 use native.Mathlib.Omega.{arith}
 use lib.ListN.{length, drop, length-drop}
@@ -18,17 +18,6 @@ use Rattle.packet_receipt_time.proofs.PairsAnswers.{pairs-fine, pairs-u
 use borrow.Author.Needs.{needs}
 use Rattle.packet_receipt_time.proofs.pairs.Statement.{statement}
 use Rattle.packet_receipt_time.proofs.pairs.Tie as tie
-use Rattle.packet_receipt_time.proofs.pairs.Reads as reads
-use Rattle.packet_receipt_time.proofs.pairs.Lts as lts
-use Rattle.block.proofs.check.Reads as check-reads
-use Rattle.block.proofs.fields_at.Reads as fields-at-reads
-use Rattle.packet_receipt_time.proofs.lesser.Reads as lesser-reads
-use Rattle.packet_receipt_time.proofs.listable_of.Reads as listable-of-reads
-use Rattle.packet_receipt_time.proofs.store.Reads as store-reads
-use Rattle.packet_receipt_time.proofs.times_count.Reads as times-count-reads
-use Rattle.rle.proofs.number_at.Reads as number-at-reads
-use Rattle.rle.proofs.range_of.Reads as range-of-reads
-use Rattle.utils.proofs.doubled.Reads as doubled-reads
 
 abbrev v-of : tie.After-lesser → List ℕ
 v-of c = c .before .before .before .before .before .before .before .before .before .before .args .v .now
@@ -63,35 +52,27 @@ asked c first step p q =
 long : (c : tie.After-lesser) (first step : ℕ) → c .lesser .result ≡ length (stepped step first (c .lesser .result) (times-of c))
 long c first step = omega (arith, counted c, length-stepped step first (c .lesser .result) (times-of c))
 
--- src/lib.rt:72:11
 check-requires : tie.Need-check-requires
 check-requires c κs = search needs
 
--- src/lib.rt:74:17
 enum-told : tie.Need-enum-told
 enum-told c = search needs
 
--- src/lib.rt:74:17
 fields-at-requires : tie.Need-fields-at-requires
 fields-at-requires c κs = search needs
 
--- src/lib.rt:75:28
 listable-of-requires : tie.Need-listable-of-requires
 listable-of-requires c κs = search needs
 
--- src/lib.rt:75:47
 times-count-requires : tie.Need-times-count-requires
 times-count-requires c κs = search needs
 
--- src/lib.rt:75:17
 lesser-requires : tie.Need-lesser-requires
 lesser-requires c κs = search needs
 
--- src/lib.rt:76:17
 lesser-requires-2 : tie.Need-lesser-requires-2
 lesser-requires-2 c κs = search needs
 
--- src/lib.rt:78:17
 returns : tie.Need-returns
 returns c = let m = c .before in
     let n = m .before in
@@ -100,35 +81,27 @@ returns c = let m = c .before in
     let step = stepOf (fieldsAt (v-of n) .thinning) in
     pairs-full _ (a .numbers .now) (a .times .now) (stepped step first (n .lesser .result) (times-of n)) (n .lesser .result) (m .lesser2 .result) (asked n first step refl refl) (long n first step) (m .lesser2 .ensures) (c .if1 .taken)
 
--- src/lib.rt:80:40
 range-of-requires : tie.Need-range-of-requires
 range-of-requires c κs = search needs
 
--- src/lib.rt:80:17
 number-at-requires : tie.Need-number-at-requires
 number-at-requires c κs = search needs
 
--- src/lib.rt:81:17
 doubled-requires : tie.Need-doubled-requires
 doubled-requires c κs = search needs
 
--- src/lib.rt:82:13
 store-requires : tie.Need-store-requires
 store-requires c κs = search needs
 
--- src/lib.rt:85:24
 enum-known-x : tie.Need-enum-known-x
 enum-known-x c = search needs
 
--- src/lib.rt:69:1
 same-length : tie.Need-same-length
 same-length c = search needs
 
--- src/lib.rt:69:1
 same-length-2 : tie.Need-same-length-2
 same-length-2 c = search needs
 
--- src/lib.rt:69:1
 returns-2 : tie.Need-returns-2
 returns-2 c = let st = c .before .before .before .before in
     let d = st .before .before .before in
@@ -143,7 +116,6 @@ returns-2 c = let st = c .before .before .before .before in
     let step = step-found (a .r) (f .fields-at .result) (a .v .now) (f .fields-at .ensures) (d .doubled .result) (d .doubled .ensures) in
     pairs-listed _ (a .numbers .now) (a .times .now) _ (n .lesser .result) _ _ (asked n (x .number-at .result) (d .doubled .result) first step) (long n (x .number-at .result) (d .doubled .result)) (omega (arith, e .if1 .left, m .lesser2 .ensures)) (st .store .ensures)
 
--- src/lib.rt:69:1
 returns-3 : tie.Need-returns-3
 returns-3 c = let x = c .before in
     let h = x .before .before in

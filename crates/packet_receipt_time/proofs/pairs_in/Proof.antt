@@ -1,62 +1,48 @@
+-- `packet_receipt_time::pairs_in` meets its contract: the pairs of block k of a packet.
 use Rattle.packet_receipt_time.proofs.PairsAnswers.{pairs-asked, pairs-missing, pairs-refused}
 use Rattle.xr.proofs.WalkLaws.{located-within}
 use native.Mathlib.Omega.{arith}
-use mathlib.Core.Path.{_≡_, refl, sym, ap, _∙_}
+use mathlib.Core.Path.{sym, _∙_}
 use borrow.Author.Needs.{needs}
 use Rattle.packet_receipt_time.proofs.pairs_in.Statement.{statement}
 use Rattle.packet_receipt_time.proofs.pairs_in.Tie as tie
-use Rattle.packet_receipt_time.proofs.pairs_in.Reads as reads
-use Rattle.packet_receipt_time.proofs.pairs_in.Lts as lts
-use Rattle.packet_receipt_time.proofs.pairs.Reads as pairs-reads
-use Rattle.xr.proofs.locate.Reads as locate-reads
 
--- src/lib.rt:99:11
 locate-requires : tie.Need-locate-requires
 locate-requires c κs = search needs
 
--- src/lib.rt:100:21
 enum-known-at : tie.Need-enum-known-at
 enum-known-at c = search needs
 
--- src/lib.rt:100:47
 add-pairs : tie.Need-add-pairs
 add-pairs c = let p = c .before in
     let l = p .before .before in
     let a = l .before .before .before .before .args in
     omega (arith, located-within (a .r) (a .s .now) (a .k) (p .at .given .0 .0) (p .at .given .0 .1 .0) (sym (l .locate .ensures) ∙ p .at .given .1) .end)
 
--- src/lib.rt:100:40
 sub-pairs : tie.Need-sub-pairs
 sub-pairs c = search needs
 
--- src/lib.rt:100:40
 part-pairs-start : tie.Need-part-pairs-start
 part-pairs-start c = search needs
 
--- src/lib.rt:100:40
 part-pairs-end : tie.Need-part-pairs-end
 part-pairs-end c = let p = c .before in
     let l = p .before .before in
     let a = l .before .before .before .before .args in
     omega (arith, located-within (a .r) (a .s .now) (a .k) (p .at .given .0 .0) (p .at .given .0 .1 .0) (sym (l .locate .ensures) ∙ p .at .given .1) .end)
 
--- src/lib.rt:100:31
 pairs-requires : tie.Need-pairs-requires
 pairs-requires c κs = search needs
 
--- src/lib.rt:101:26
 enum-known-x : tie.Need-enum-known-x
 enum-known-x c = search needs
 
--- src/lib.rt:90:1
 same-length : tie.Need-same-length
 same-length c = search needs
 
--- src/lib.rt:90:1
 same-length-2 : tie.Need-same-length-2
 same-length-2 c = search needs
 
--- src/lib.rt:90:1
 returns : tie.Need-returns
 returns c = let e = c .before .before .before .before in
     let p = e .before .before .before .before .before in
@@ -64,7 +50,6 @@ returns c = let e = c .before .before .before .before in
     let a = l .before .before .before .before .args in
     rw (pairs-asked (a .r) (a .s .now) (a .k) (p .at .given .0 .0) (p .at .given .0 .1 .0) (sym (l .locate .ensures) ∙ p .at .given .1)) (e .pairs .ensures)
 
--- src/lib.rt:90:1
 returns-2 : tie.Need-returns-2
 returns-2 c = let p = c .before in
     let l = p .before .before in

@@ -1,3 +1,4 @@
+-- `packet_receipt_time::times_count` meets its contract: how many times a view has from byte 12 on.
 use Rattle.utils.proofs.BytesLaws.{length-words32}
 use lib.ListN.{length, drop, length-drop}
 use native.Mathlib.Omega.{arith}
@@ -6,19 +7,14 @@ use Prim.Native.Nat.{_-_, _/_}
 use borrow.Author.Needs.{needs}
 use Rattle.packet_receipt_time.proofs.times_count.Statement.{statement}
 use Rattle.packet_receipt_time.proofs.times_count.Tie as tie
-use Rattle.packet_receipt_time.proofs.times_count.Reads as reads
-use Rattle.packet_receipt_time.proofs.times_count.Lts as lts
 
--- src/lib.rt:35:9
 returns : tie.Need-returns
 returns c = let v = c .before .args .v .now in
     (let e : 0 ≡ length (drop 12 v) / 4 = omega (arith, length-drop 12 v) in e) ∙ sym (length-words32 (drop 12 v))
 
--- src/lib.rt:37:6
 sub-result : tie.Need-sub-result
 sub-result c = search needs
 
--- src/lib.rt:31:1
 returns-2 : tie.Need-returns-2
 returns-2 c = let v = c .before .args .v .now in
     (let e : (length v - 12) / 4 ≡ length (drop 12 v) / 4 = omega (arith, length-drop 12 v) in e) ∙ sym (length-words32 (drop 12 v))

@@ -1,29 +1,22 @@
+-- `print::flush` meets its contract: writes what waits, and empties the buffer.
 use mathlib.Core.Path.{sym}
 use lib.Seq.{length-take-le}
 use borrow.Author.Needs.{needs}
 use Rattle.print.proofs.flush.Statement.{statement}
 use Rattle.print.proofs.flush.Tie as tie
-use Rattle.print.proofs.flush.Reads as reads
-use Rattle.print.proofs.flush.Lts as lts
-use Rattle.io.proofs.write_all.Reads as write-all-reads
 
--- src/lib.rt:13:38
 slice-aggregate-write-all : tie.Need-slice-aggregate-write-all
 slice-aggregate-write-all c = sym (length-take-le (c .before .before .before .args .at) (c .before .before .before .args .buf .now) (c .before .if1 .taken))
 
--- src/lib.rt:13:9
 write-all-requires : tie.Need-write-all-requires
 write-all-requires c κs = search needs
 
--- src/lib.rt:15:9
 write-all-requires-2 : tie.Need-write-all-requires-2
 write-all-requires-2 c κs = search needs
 
--- src/lib.rt:9:1
 returns : tie.Need-returns
 returns c = search needs
 
--- src/lib.rt:9:1
 returns-2 : tie.Need-returns-2
 returns-2 c = search needs
 

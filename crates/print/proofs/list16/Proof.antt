@@ -1,15 +1,10 @@
+-- `print::list16` meets its contract: the first n of a list of 16-bit numbers, a space before each.
 use borrow.Author.Needs.{needs}
-use Prim.Native.Nat.{_≤_, _-_, _<_}
+use Prim.Native.Nat.{_≤_, _-_}
 use mathlib.Core.Path.{_≡_}
 use lib.ListN.{length}
 use Rattle.print.proofs.list16.Statement.{statement}
 use Rattle.print.proofs.list16.Tie as tie
-use Rattle.print.proofs.list16.Reads as reads
-use Rattle.print.proofs.list16.Lts as lts
-use Rattle.print.proofs.lesser.Reads as lesser-reads
-use Rattle.print.proofs.number.Reads as number-reads
-use Rattle.print.proofs.wide16.Reads as wide16-reads
-use Rattle.print.proofs.within.Reads as within-reads
 
 abbrev Inv-loop : tie.InvT-loop
 Inv-loop buf₀ at list n stop to₀ i₀ buf to i = (i ≤ stop) × (stop ≤ length list) × (to ≤ length buf₀) × (length buf ≡ length buf₀)
@@ -17,51 +12,39 @@ Inv-loop buf₀ at list n stop to₀ i₀ buf to i = (i ≤ stop) × (stop ≤ l
 abbrev μ-loop : tie.MeasureT-loop
 μ-loop buf₀ at list n stop to₀ i₀ buf to i = stop - i
 
--- src/lib.rt:107:9
 lesser-requires : tie.Need-lesser-requires Inv-loop μ-loop
 lesser-requires c κs = search needs
 
--- src/lib.rt:108:9
 within-requires : tie.Need-within-requires Inv-loop μ-loop
 within-requires c κs = search needs
 
--- src/lib.rt:110:5
 loop-holds : tie.Need-loop-holds Inv-loop μ-loop
 loop-holds c = search needs
 
--- src/lib.rt:111:37
 mul-wide16 : tie.Need-mul-wide16 Inv-loop μ-loop
 mul-wide16 c = search needs
 
--- src/lib.rt:111:37
 shared-slice-read-wide16 : tie.Need-shared-slice-read-wide16 Inv-loop μ-loop
 shared-slice-read-wide16 c = search needs
 
--- src/lib.rt:111:30
 wide16-requires : tie.Need-wide16-requires Inv-loop μ-loop
 wide16-requires c κs = search needs
 
--- src/lib.rt:111:9
 number-requires : tie.Need-number-requires Inv-loop μ-loop
 number-requires c κs = search needs
 
--- src/lib.rt:112:9
 add-i : tie.Need-add-i Inv-loop μ-loop
 add-i c = search needs
 
--- src/lib.rt:110:5
 loop-less : tie.Need-loop-less Inv-loop μ-loop
 loop-less c = search needs
 
--- src/lib.rt:110:5
 loop-again : tie.Need-loop-again Inv-loop μ-loop
 loop-again c = search needs
 
--- src/lib.rt:104:1
 same-length : tie.Need-same-length Inv-loop μ-loop
 same-length c = search needs
 
--- src/lib.rt:104:1
 returns : tie.Need-returns Inv-loop μ-loop
 returns c = search needs
 

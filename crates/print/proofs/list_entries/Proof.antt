@@ -1,15 +1,10 @@
+-- `print::list_entries` meets its contract: the first n of three lists side by side.
 use borrow.Author.Needs.{needs}
-use Prim.Native.Nat.{_≤_, _-_, _<_}
+use Prim.Native.Nat.{_≤_, _-_}
 use mathlib.Core.Path.{_≡_}
 use lib.ListN.{length}
 use Rattle.print.proofs.list_entries.Statement.{statement}
 use Rattle.print.proofs.list_entries.Tie as tie
-use Rattle.print.proofs.list_entries.Reads as reads
-use Rattle.print.proofs.list_entries.Lts as lts
-use Rattle.print.proofs.lesser.Reads as lesser-reads
-use Rattle.print.proofs.number.Reads as number-reads
-use Rattle.print.proofs.wide32.Reads as wide32-reads
-use Rattle.print.proofs.within.Reads as within-reads
 
 abbrev Inv-loop : tie.InvT-loop
 Inv-loop buf₀ at a b c n stop to₀ i₀ buf to i = (i ≤ stop) × (stop ≤ length a) × (stop ≤ length b) × (stop ≤ length c) × (to ≤ length buf₀) × (length buf ≡ length buf₀)
@@ -17,91 +12,69 @@ Inv-loop buf₀ at a b c n stop to₀ i₀ buf to i = (i ≤ stop) × (stop ≤ 
 abbrev μ-loop : tie.MeasureT-loop
 μ-loop buf₀ at a b c n stop to₀ i₀ buf to i = stop - i
 
--- src/lib.rt:136:42
 lesser-requires : tie.Need-lesser-requires Inv-loop μ-loop
 lesser-requires c κs = search needs
 
--- src/lib.rt:136:26
 lesser-requires-2 : tie.Need-lesser-requires-2 Inv-loop μ-loop
 lesser-requires-2 c κs = search needs
 
--- src/lib.rt:136:9
 lesser-requires-3 : tie.Need-lesser-requires-3 Inv-loop μ-loop
 lesser-requires-3 c κs = search needs
 
--- src/lib.rt:137:9
 within-requires : tie.Need-within-requires Inv-loop μ-loop
 within-requires c κs = search needs
 
--- src/lib.rt:139:5
 loop-holds : tie.Need-loop-holds Inv-loop μ-loop
 loop-holds c = search needs
 
--- src/lib.rt:140:37
 mul-wide32 : tie.Need-mul-wide32 Inv-loop μ-loop
 mul-wide32 c = search needs
 
--- src/lib.rt:140:37
 shared-slice-read-wide32 : tie.Need-shared-slice-read-wide32 Inv-loop μ-loop
 shared-slice-read-wide32 c = search needs
 
--- src/lib.rt:140:30
 wide32-requires : tie.Need-wide32-requires Inv-loop μ-loop
 wide32-requires c κs = search needs
 
--- src/lib.rt:140:9
 number-requires : tie.Need-number-requires Inv-loop μ-loop
 number-requires c κs = search needs
 
--- src/lib.rt:141:37
 mul-wide32-2 : tie.Need-mul-wide32-2 Inv-loop μ-loop
 mul-wide32-2 c = search needs
 
--- src/lib.rt:141:37
 shared-slice-read-wide32-2 : tie.Need-shared-slice-read-wide32-2 Inv-loop μ-loop
 shared-slice-read-wide32-2 c = search needs
 
--- src/lib.rt:141:30
 wide32-requires-2 : tie.Need-wide32-requires-2 Inv-loop μ-loop
 wide32-requires-2 c κs = search needs
 
--- src/lib.rt:141:9
 number-requires-2 : tie.Need-number-requires-2 Inv-loop μ-loop
 number-requires-2 c κs = search needs
 
--- src/lib.rt:142:37
 mul-wide32-3 : tie.Need-mul-wide32-3 Inv-loop μ-loop
 mul-wide32-3 c = search needs
 
--- src/lib.rt:142:37
 shared-slice-read-wide32-3 : tie.Need-shared-slice-read-wide32-3 Inv-loop μ-loop
 shared-slice-read-wide32-3 c = search needs
 
--- src/lib.rt:142:30
 wide32-requires-3 : tie.Need-wide32-requires-3 Inv-loop μ-loop
 wide32-requires-3 c κs = search needs
 
--- src/lib.rt:142:9
 number-requires-3 : tie.Need-number-requires-3 Inv-loop μ-loop
 number-requires-3 c κs = search needs
 
--- src/lib.rt:143:9
 add-i : tie.Need-add-i Inv-loop μ-loop
 add-i c = search needs
 
--- src/lib.rt:139:5
 loop-less : tie.Need-loop-less Inv-loop μ-loop
 loop-less c = search needs
 
--- src/lib.rt:139:5
 loop-again : tie.Need-loop-again Inv-loop μ-loop
 loop-again c = search needs
 
--- src/lib.rt:133:1
 same-length : tie.Need-same-length Inv-loop μ-loop
 same-length c = search needs
 
--- src/lib.rt:133:1
 returns : tie.Need-returns Inv-loop μ-loop
 returns c = search needs
 

@@ -1,13 +1,10 @@
+-- `print::text` meets its contract.
 use borrow.Author.Needs.{needs}
-use Prim.Native.Nat.{_≤_, _-_, _<_}
+use Prim.Native.Nat.{_≤_, _-_}
 use mathlib.Core.Path.{_≡_}
 use lib.ListN.{length}
 use Rattle.print.proofs.text.Statement.{statement}
 use Rattle.print.proofs.text.Tie as tie
-use Rattle.print.proofs.text.Reads as reads
-use Rattle.print.proofs.text.Lts as lts
-use Rattle.print.proofs.byte.Reads as byte-reads
-use Rattle.print.proofs.within.Reads as within-reads
 
 abbrev Inv-loop : tie.InvT-loop
 Inv-loop buf₀ at t n₀ i₀ buf n i = (i ≤ length t) × (n ≤ length buf₀) × (length buf ≡ length buf₀)
@@ -15,39 +12,30 @@ Inv-loop buf₀ at t n₀ i₀ buf n i = (i ≤ length t) × (n ≤ length buf�
 abbrev μ-loop : tie.MeasureT-loop
 μ-loop buf₀ at t n₀ i₀ buf n i = length t - i
 
--- src/lib.rt:38:9
 within-requires : tie.Need-within-requires Inv-loop μ-loop
 within-requires c κs = search needs
 
--- src/lib.rt:40:5
 loop-holds : tie.Need-loop-holds Inv-loop μ-loop
 loop-holds c = search needs
 
--- src/lib.rt:41:26
 shared-slice-read-byte : tie.Need-shared-slice-read-byte Inv-loop μ-loop
 shared-slice-read-byte c = search needs
 
--- src/lib.rt:41:9
 byte-requires : tie.Need-byte-requires Inv-loop μ-loop
 byte-requires c κs = search needs
 
--- src/lib.rt:42:9
 add-i : tie.Need-add-i Inv-loop μ-loop
 add-i c = search needs
 
--- src/lib.rt:40:5
 loop-less : tie.Need-loop-less Inv-loop μ-loop
 loop-less c = search needs
 
--- src/lib.rt:40:5
 loop-again : tie.Need-loop-again Inv-loop μ-loop
 loop-again c = search needs
 
--- src/lib.rt:35:1
 same-length : tie.Need-same-length Inv-loop μ-loop
 same-length c = search needs
 
--- src/lib.rt:35:1
 returns : tie.Need-returns Inv-loop μ-loop
 returns c = search needs
 

@@ -5,38 +5,30 @@ use borrow.Author.Needs.{needs}
 use Rattle.reader.proofs.end_at.Statement.{statement}
 use Rattle.reader.proofs.end_at.Tie as tie
 
--- src/lib.rt:39:21
 enum-told : tie.Need-enum-told
 enum-told c = search needs
 
--- src/lib.rt:40:36
 length-at-requires : tie.Need-length-at-requires
 length-at-requires c κs = search needs
 
--- src/lib.rt:40:31
 add-lesser : tie.Need-add-lesser
 add-lesser c = search needs
 
--- src/lib.rt:40:17
 lesser-requires : tie.Need-lesser-requires
 lesser-requires c κs = search needs
 
--- src/lib.rt:40:17
 returns : tie.Need-returns
 returns c = let l = c .before in
     let t = l .before .before in
     let a = t .before .before .before .args in
     c .lesser .ensures ∙ end-standard (a .r) (a .s .now) (a .at) (l .length-at .result) (t .enum-told .given .1) (l .length-at .ensures .0)
 
--- src/lib.rt:44:27
 enum-told-2 : tie.Need-enum-told-2
 enum-told-2 c = search needs
 
--- src/lib.rt:33:1
 returns-2 : tie.Need-returns-2
 returns-2 c = search needs
 
--- src/lib.rt:33:1
 returns-3 : tie.Need-returns-3
 returns-3 c = let s = c .before .before .before in
     let a = s .args in

@@ -5,27 +5,21 @@ use borrow.Author.Needs.{needs}
 use Rattle.reader.proofs.header_at.Statement.{statement}
 use Rattle.reader.proofs.header_at.Tie as tie
 
--- src/lib.rt:52:9
 lesser-requires : tie.Need-lesser-requires
 lesser-requires c κs = search needs
 
--- src/lib.rt:53:21
 sub-header-data : tie.Need-sub-header-data
 sub-header-data c = search needs
 
--- src/lib.rt:53:21
 part-header-data-start : tie.Need-part-header-data-start
 part-header-data-start c = search needs
 
--- src/lib.rt:53:21
 part-header-data-end : tie.Need-part-header-data-end
 part-header-data-end c = search needs
 
--- src/lib.rt:53:5
 header-data-requires : tie.Need-header-data-requires
 header-data-requires c κs = search needs
 
--- src/lib.rt:49:1
 returns : tie.Need-returns
 returns c = let h = c .before in
     let l = h .before in

@@ -4,20 +4,16 @@ use borrow.Author.Needs.{needs}
 use Rattle.reader.proofs.next_place.Statement.{statement}
 use Rattle.reader.proofs.next_place.Tie as tie
 
--- src/lib.rt:72:21
 length-at-requires : tie.Need-length-at-requires
 length-at-requires c κs = search needs
 
--- src/lib.rt:72:16
 add-result : tie.Need-add-result
 add-result c = search needs
 
--- src/lib.rt:72:9
 returns : tie.Need-returns
 returns c = let a = c .before .before .before .args in
     next-within (a .s .now) (a .at) (c .length-at .result) (c .before .if1 .taken) (c .length-at .ensures .0)
 
--- src/lib.rt:68:1
 returns-2 : tie.Need-returns-2
 returns-2 c = let a = c .before .before .args in next-past (a .s .now) (a .at) (c .if1 .left)
 

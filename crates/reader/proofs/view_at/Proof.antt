@@ -4,27 +4,21 @@ use borrow.Author.Needs.{needs}
 use Rattle.reader.proofs.view_at.Statement.{statement}
 use Rattle.reader.proofs.view_at.Tie as tie
 
--- src/lib.rt:62:9
 lesser-requires : tie.Need-lesser-requires
 lesser-requires c κs = search needs
 
--- src/lib.rt:63:9
 end-at-requires : tie.Need-end-at-requires
 end-at-requires c κs = search needs
 
--- src/lib.rt:64:5
 sub-result : tie.Need-sub-result
 sub-result c = search needs
 
--- src/lib.rt:64:5
 part-result-start : tie.Need-part-result-start
 part-result-start c = search needs
 
--- src/lib.rt:64:5
 part-result-end : tie.Need-part-result-end
 part-result-end c = search needs
 
--- src/lib.rt:58:1
 returns : tie.Need-returns
 returns c = let e = c .before in
     let l = e .before in

@@ -6,7 +6,7 @@ use Rattle.def_crate.specs.Crate.{crateNumbersFrom}
 use Rattle.def_wire.specs.Bytes.{words16}
 use Rattle.def_refusals.specs.Answers.{shown}
 use lib.ListN.{length, take}
-use mathlib.Core.List.{List, [], _∷_}
+use mathlib.Core.List.{List, _∷_}
 use native.Mathlib.Omega.{arith}
 use mathlib.Core.Path.{_≡_, refl, sym}
 use mathlib.Core.Logic.{⊎-elim}

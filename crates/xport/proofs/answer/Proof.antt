@@ -1,30 +1,23 @@
+-- `xport::answer` meets its contract.
 use Rattle.xport.specs.Flat.{flatOf}
 use mathlib.Core.Path.{sym, ap, _∙_}
 use borrow.Author.Needs.{needs}
 use Rattle.xport.proofs.answer.Statement.{statement}
 use Rattle.xport.proofs.answer.Tie as tie
-use Rattle.xport.proofs.answer.Reads as reads
-use Rattle.xport.proofs.answer.Lts as lts
-use Rattle.xport.proofs.refusal.Reads as refusal-reads
 
--- src/lib.rt:79:22
 enum-known-a : tie.Need-enum-known-a
 enum-known-a c = search needs
 
--- src/lib.rt:84:25
 enum-known-a-2 : tie.Need-enum-known-a-2
 enum-known-a-2 c = search needs
 
--- src/lib.rt:84:31
 refusal-requires : tie.Need-refusal-requires
 refusal-requires c κs = search needs
 
--- src/lib.rt:75:1
 returns : tie.Need-returns
 unfolding flatOf
 returns c = sym (ap flatOf (c .before .a .given .1))
 
--- src/lib.rt:75:1
 returns-2 : tie.Need-returns-2
 unfolding flatOf
 returns-2 c = c .refusal .ensures ∙ sym (ap flatOf (c .before .before .a2 .given .1))

@@ -1,30 +1,23 @@
+-- `xport::fields` meets its contract.
 use Rattle.xport.specs.Flat.{flatFields, fieldsRow, noFields}
 use mathlib.Core.Path.{sym, ap, _∙_}
 use borrow.Author.Needs.{needs}
 use Rattle.xport.proofs.fields.Statement.{statement}
 use Rattle.xport.proofs.fields.Tie as tie
-use Rattle.xport.proofs.fields.Reads as reads
-use Rattle.xport.proofs.fields.Lts as lts
-use Rattle.xport.proofs.refusal.Reads as refusal-reads
 
--- src/lib.rt:105:25
 enum-known-a : tie.Need-enum-known-a
 enum-known-a c = search needs
 
--- src/lib.rt:114:26
 enum-known-a-2 : tie.Need-enum-known-a-2
 enum-known-a-2 c = search needs
 
--- src/lib.rt:115:17
 refusal-requires : tie.Need-refusal-requires
 refusal-requires c κs = search needs
 
--- src/lib.rt:101:1
 returns : tie.Need-returns
 unfolding flatFields
 returns c = sym (ap flatFields (c .before .a .given .1))
 
--- src/lib.rt:101:1
 returns-2 : tie.Need-returns-2
 unfolding flatFields
 returns-2 c = ap (λ f. fieldsRow f noFields) (c .refusal .ensures) ∙ sym (ap flatFields (c .before .before .a2 .given .1))

@@ -1,22 +1,17 @@
+-- `xport::kind` meets its contract.
 use Rattle.xport.proofs.FlatLaws.{kind-null, kind-skip, kind-run, kind-vector}
 use Rattle.xport.proofs.kind.Statement.{statement}
 use Rattle.xport.proofs.kind.Tie as tie
-use Rattle.xport.proofs.kind.Reads as reads
-use Rattle.xport.proofs.kind.Lts as lts
 
--- src/lib.rt:53:9
 returns : tie.Need-returns
 returns c = kind-null (c .before .args .k) (c .before .args .value) (c .if1 .taken)
 
--- src/lib.rt:56:9
 returns-2 : tie.Need-returns-2
 returns-2 c = let a = c .before .before .args in kind-skip (a .k) (a .value) (c .before .if1 .left) (c .if2 .taken)
 
--- src/lib.rt:59:9
 returns-3 : tie.Need-returns-3
 returns-3 c = let a = c .before .before .before .args in kind-run (a .k) (a .value) (c .before .before .if1 .left) (c .before .if2 .left) (c .if3 .taken)
 
--- src/lib.rt:49:1
 returns-4 : tie.Need-returns-4
 returns-4 c = let a = c .before .before .before .args in kind-vector (a .k) (a .value) (c .before .before .if1 .left) (c .before .if2 .left) (c .if3 .left)
 

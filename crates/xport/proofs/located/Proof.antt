@@ -1,30 +1,23 @@
+-- `xport::located` meets its contract.
 use Rattle.xport.specs.Flat.{flatLocated}
 use mathlib.Core.Path.{sym, ap, _∙_}
 use borrow.Author.Needs.{needs}
 use Rattle.xport.proofs.located.Statement.{statement}
 use Rattle.xport.proofs.located.Tie as tie
-use Rattle.xport.proofs.located.Reads as reads
-use Rattle.xport.proofs.located.Lts as lts
-use Rattle.xport.proofs.refusal.Reads as refusal-reads
 
--- src/lib.rt:92:21
 enum-known-a : tie.Need-enum-known-a
 enum-known-a c = search needs
 
--- src/lib.rt:97:26
 enum-known-a-2 : tie.Need-enum-known-a-2
 enum-known-a-2 c = search needs
 
--- src/lib.rt:97:32
 refusal-requires : tie.Need-refusal-requires
 refusal-requires c κs = search needs
 
--- src/lib.rt:88:1
 returns : tie.Need-returns
 unfolding flatLocated
 returns c = sym (ap flatLocated (c .before .a .given .1))
 
--- src/lib.rt:88:1
 returns-2 : tie.Need-returns-2
 unfolding flatLocated
 returns-2 c = c .refusal .ensures ∙ sym (ap flatLocated (c .before .before .a2 .given .1))

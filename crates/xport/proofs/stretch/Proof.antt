@@ -1,30 +1,23 @@
+-- `xport::stretch` meets its contract.
 use Rattle.xport.specs.Flat.{flatStretch, stretchRow, noStretch}
 use mathlib.Core.Path.{sym, ap, _∙_}
 use borrow.Author.Needs.{needs}
 use Rattle.xport.proofs.stretch.Statement.{statement}
 use Rattle.xport.proofs.stretch.Tie as tie
-use Rattle.xport.proofs.stretch.Reads as reads
-use Rattle.xport.proofs.stretch.Lts as lts
-use Rattle.xport.proofs.refusal.Reads as refusal-reads
 
--- src/lib.rt:161:25
 enum-known-a : tie.Need-enum-known-a
 enum-known-a c = search needs
 
--- src/lib.rt:174:25
 enum-known-a-2 : tie.Need-enum-known-a-2
 enum-known-a-2 c = search needs
 
--- src/lib.rt:175:17
 refusal-requires : tie.Need-refusal-requires
 refusal-requires c κs = search needs
 
--- src/lib.rt:157:1
 returns : tie.Need-returns
 unfolding flatStretch
 returns c = sym (ap flatStretch (c .before .before .a .given .1))
 
--- src/lib.rt:157:1
 returns-2 : tie.Need-returns-2
 unfolding flatStretch
 returns-2 c = ap (λ f. stretchRow f noStretch) (c .refusal .ensures) ∙ sym (ap flatStretch (c .before .before .a2 .given .1))

@@ -1,30 +1,23 @@
+-- `xport::time` meets its contract.
 use Rattle.xport.specs.Flat.{flatTime}
 use mathlib.Core.Path.{sym, ap, _∙_}
 use borrow.Author.Needs.{needs}
 use Rattle.xport.proofs.time.Statement.{statement}
 use Rattle.xport.proofs.time.Tie as tie
-use Rattle.xport.proofs.time.Reads as reads
-use Rattle.xport.proofs.time.Lts as lts
-use Rattle.xport.proofs.refusal.Reads as refusal-reads
 
--- src/lib.rt:133:22
 enum-known-a : tie.Need-enum-known-a
 enum-known-a c = search needs
 
--- src/lib.rt:138:24
 enum-known-a-2 : tie.Need-enum-known-a-2
 enum-known-a-2 c = search needs
 
--- src/lib.rt:138:30
 refusal-requires : tie.Need-refusal-requires
 refusal-requires c κs = search needs
 
--- src/lib.rt:129:1
 returns : tie.Need-returns
 unfolding flatTime
 returns c = sym (ap flatTime (c .before .a .given .1))
 
--- src/lib.rt:129:1
 returns-2 : tie.Need-returns-2
 unfolding flatTime
 returns-2 c = c .refusal .ensures ∙ sym (ap flatTime (c .before .before .a2 .given .1))

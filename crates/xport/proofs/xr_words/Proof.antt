@@ -1,32 +1,23 @@
+-- `xport::xr_words` meets its contract: the chunk words of block k, asked as type t.
 use Rattle.def_questions.specs.Packets.{wordsAsked}
 use Rattle.xport.proofs.FlatLaws.{flat-listed}
 use mathlib.Core.Path.{ap}
 use borrow.Author.Needs.{needs}
 use Rattle.xport.proofs.xr_words.Statement.{statement}
 use Rattle.xport.proofs.xr_words.Tie as tie
-use Rattle.xport.proofs.xr_words.Reads as reads
-use Rattle.xport.proofs.xr_words.Lts as lts
-use Rattle.numbers.proofs.words_in.Reads as words-in-reads
-use Rattle.xport.proofs.answer.Reads as answer-reads
-use Rattle.xport.proofs.reading.Reads as reading-reads
 
--- src/lib.rt:195:30
 reading-requires : tie.Need-reading-requires
 reading-requires c κs = search needs
 
--- src/lib.rt:195:12
 words-in-requires : tie.Need-words-in-requires
 words-in-requires c κs = search needs
 
--- src/lib.rt:195:5
 answer-requires : tie.Need-answer-requires
 answer-requires c κs = search needs
 
--- src/lib.rt:191:1
 same-length : tie.Need-same-length
 same-length c = search needs
 
--- src/lib.rt:191:1
 returns : tie.Need-returns
 returns c = let n = c .before .before .before in
     let q = n .before .before in

@@ -1,42 +1,32 @@
 -- `xr::count` meets its contract.
-use mathlib.Core.Path.{_≡_, sym, _∙_}
+use mathlib.Core.Path.{sym, _∙_}
 use Rattle.xr.proofs.HeaderLaws.{header-fine}
 use Rattle.xr.proofs.WalkLaws.{count-walked, count-refused}
 use borrow.Author.Needs.{needs}
 use Rattle.xr.proofs.count.Statement.{statement}
 use Rattle.xr.proofs.count.Tie as tie
-use Rattle.xr.proofs.count.Reads as reads
-use Rattle.xr.proofs.count.Lts as lts
-use Rattle.xr.proofs.header.Reads as header-reads
-use Rattle.xr.proofs.walk.Reads as walk-reads
 
--- src/lib.rt:163:11
 header-requires : tie.Need-header-requires
 header-requires c κs = search needs
 
--- src/lib.rt:164:22
 enum-known-stop : tie.Need-enum-known-stop
 enum-known-stop c = search needs
 
--- src/lib.rt:165:17
 walk-requires : tie.Need-walk-requires
 walk-requires c κs = let h = c .before .before .before in
     let a = h .before .before .args in
     let f = header-fine (a .r) (a .s .now) (c .before .stop .given .0 .0) (sym (h .header .ensures) ∙ c .before .stop .given .1) in
     (f .within, f .whole, f .least)
 
--- src/lib.rt:168:25
 enum-known-x : tie.Need-enum-known-x
 enum-known-x c = search needs
 
--- src/lib.rt:160:1
 returns : tie.Need-returns
 returns c = let k = c .before .before in
     let h = k .before .before in
     let a = h .before .before .args in
     c .walk .ensures .counted ∙ count-walked (a .r) (a .s .now) (k .stop .given .0 .0) (sym (h .header .ensures) ∙ k .stop .given .1)
 
--- src/lib.rt:160:1
 returns-2 : tie.Need-returns-2
 returns-2 c = let k = c .before in
     let h = k .before .before in

@@ -1,25 +1,17 @@
-use Rattle.def_wire.specs.declared.Reading.the-variants.{Standard, Crate}
 -- `xr::header` meets its contract: each way out cites a law of `headerOf`, with the tests that led there.
-use Prim.Native.Nat.{ℕ, _≤_, _/_, _%_}
+use Prim.Native.Nat.{ℕ, _≤_}
 use mathlib.Core.Path.{_≡_, sym, _∙_, ap}
 use mathlib.Core.List.{List}
 use native.Mathlib.Omega.{arith}
 use lib.ListN.{length}
-use Rattle.def_refusals.specs.declared.Answer.the-variants.{Done, Refused}
+use Rattle.def_refusals.specs.declared.Answer.the-variants.{Done}
 use Rattle.def_wire.specs.declared.Reading.{Reading}
-use Rattle.def_wire.specs.Bytes.{byteAt}
 use Rattle.def_wire.specs.Packet.{leastOf, announcedOf, paddingOf, stopOf, headerOf, isBadPadding}
-use mathlib.Core.Bool.{true, false}
+use mathlib.Core.Bool.{false}
 use Rattle.xr.proofs.HeaderLaws.{least-ge, header-short, header-version, header-type, header-length, header-padding, header-padded, header-plain, stop-plain, stop-standard, stop-crate, good-padding}
 use borrow.Author.Needs.{needs}
 use Rattle.xr.proofs.header.Statement.{statement}
 use Rattle.xr.proofs.header.Tie as tie
-use Rattle.xr.proofs.header.Reads as reads
-use Rattle.xr.proofs.header.Lts as lts
-use Rattle.xr.proofs.is_bad_padding.Reads as is-bad-padding-reads
-use Rattle.xr.proofs.least.Reads as least-reads
-use Rattle.xr.proofs.length_at.Reads as length-at-reads
-use Rattle.xr.proofs.wide8.Reads as wide8-reads
 
 abbrev r-of : tie.After-least → Reading
 r-of c = c .before .before .args .r
@@ -52,44 +44,35 @@ padded c =
     let e = m .before .before .before .before .before in
     header-padded (r-of (e .before)) (s-of (e .before)) (long e) (m .before .before .if2 .left) (m .before .if3 .left) (says f) (p .if5 .left) (good c)
 
--- src/lib.rt:102:9
 least-requires : tie.Need-least-requires
 least-requires c κs = search needs
 
--- src/lib.rt:104:9
 returns : tie.Need-returns
 returns c = let l = c .before in
     rw (l .least .ensures) (header-short (r-of l) (s-of l) (rw (l .least .ensures) at (c .if1 .taken)))
 
--- src/lib.rt:106:17
 shared-slice-read-first : tie.Need-shared-slice-read-first
 shared-slice-read-first c = omega (arith, at-least-8 (c .before))
 
--- src/lib.rt:107:16
 shared-slice-read-kind : tie.Need-shared-slice-read-kind
 shared-slice-read-kind c = omega (arith, at-least-8 (c .before .before))
 
--- src/lib.rt:109:9
 returns-2 : tie.Need-returns-2
 returns-2 c = let e = c .before .before .before in header-version (r-of (e .before)) (s-of (e .before)) (long e) (c .if2 .taken)
 
--- src/lib.rt:112:9
 returns-3 : tie.Need-returns-3
 returns-3 c = let e = c .before .before .before .before in
     header-type (r-of (e .before)) (s-of (e .before)) (long e) (c .before .if2 .left) (c .if3 .taken)
 
--- src/lib.rt:114:9
 length-at-requires : tie.Need-length-at-requires
 length-at-requires c κs = omega (arith, at-least-8 (c .before .before .before .before))
 
--- src/lib.rt:116:9
 returns-4 : tie.Need-returns-4
 returns-4 c = let m = c .before in
     let e = m .before .before .before .before .before in
     let k = m .length-at .ensures .0 in
     rw k (header-length (r-of (e .before)) (s-of (e .before)) (long e) (m .before .before .if2 .left) (m .before .if3 .left) (λ q. c .if4 .taken (k ∙ q)))
 
--- src/lib.rt:119:9
 returns-5 : tie.Need-returns-5
 returns-5 c = let f = c .before in
     let m = f .before in
@@ -97,23 +80,18 @@ returns-5 c = let f = c .before in
     ap Done (sym (stop-plain (r-of (e .before)) (s-of (e .before)) (c .if5 .taken)))
     ∙ header-plain (r-of (e .before)) (s-of (e .before)) (long e) (m .before .before .if2 .left) (m .before .if3 .left) (says f) (c .if5 .taken)
 
--- src/lib.rt:121:21
 sub-wide8 : tie.Need-sub-wide8
 sub-wide8 c = search needs
 
--- src/lib.rt:121:19
 shared-slice-read-wide8 : tie.Need-shared-slice-read-wide8
 shared-slice-read-wide8 c = search needs
 
--- src/lib.rt:121:9
 wide8-requires : tie.Need-wide8-requires
 wide8-requires c κs = search needs
 
--- src/lib.rt:122:8
 is-bad-padding-requires : tie.Need-is-bad-padding-requires
 is-bad-padding-requires c κs = omega (arith, at-least-8 (c .before .before .before .before .before .before .before .before .before))
 
--- src/lib.rt:123:9
 returns-6 : tie.Need-returns-6
 returns-6 c = let w = c .before .before in
     let p = w .before .before in
@@ -123,29 +101,24 @@ returns-6 c = let w = c .before .before in
     rw (w .wide8 .ensures .0)
     (header-padding (r-of (e .before)) (s-of (e .before)) (long e) (m .before .before .if2 .left) (m .before .if3 .left) (says f) (p .if5 .left) (rw (w .wide8 .ensures .0) at (sym (c .before .is-bad-padding .ensures) ∙ c .if6 .taken)))
 
--- src/lib.rt:126:43
 enum-told : tie.Need-enum-told
 enum-told c = search needs
 
--- src/lib.rt:126:43
 sub-t27 : tie.Need-sub-t27
 sub-t27 c = let o = c .before .before in
     let w = o .before .before in
     let e = w .before .before .before .before .before .before .before .before .before in
     omega (arith, w .wide8 .ensures .0, good-padding (paddingOf (s-of (e .before))) (length (s-of (e .before))) (good o) .1)
 
--- src/lib.rt:127:40
 enum-told-2 : tie.Need-enum-told-2
 enum-told-2 c = search needs
 
--- src/lib.rt:99:1
 returns-7 : tie.Need-returns-7
 returns-7 c = let o = c .before .before in
     let w = o .before .before in
     let e = w .before .before .before .before .before .before .before .before .before in
     ap Done (stop-standard (r-of (e .before)) (s-of (e .before)) (w .wide8 .result) (c .enum-told .given .1) (w .wide8 .ensures .0) (w .before .before .if5 .left)) ∙ padded o
 
--- src/lib.rt:99:1
 returns-8 : tie.Need-returns-8
 returns-8 c = let o = c .before .before in
     let e = o .before .before .before .before .before .before .before .before .before .before .before in

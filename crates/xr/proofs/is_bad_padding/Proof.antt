@@ -1,23 +1,18 @@
+-- `xr::is_bad_padding` meets its contract.
 use borrow.Author.Tests.{eq-eqb, ne-eqb}
 use borrow.Author.Needs.{needs}
 use Rattle.xr.proofs.is_bad_padding.Statement.{statement}
 use Rattle.xr.proofs.is_bad_padding.Tie as tie
-use Rattle.xr.proofs.is_bad_padding.Reads as reads
-use Rattle.xr.proofs.is_bad_padding.Lts as lts
 
--- src/lib.rt:89:9
 returns : tie.Need-returns
 returns c = simp (eq-eqb _ _ (c .if1 .taken))
 
--- src/lib.rt:92:9
 returns-2 : tie.Need-returns-2
 returns-2 c = simp (ne-eqb _ _ (c .before .if1 .left), ne-eqb _ _ (c .if2 .taken))
 
--- src/lib.rt:94:5
 sub-result : tie.Need-sub-result
 sub-result c = search needs
 
--- src/lib.rt:84:1
 returns-3 : tie.Need-returns-3
 returns-3 c = simp (ne-eqb _ _ (c .before .if1 .left), eq-eqb _ _ (c .if2 .left))
 

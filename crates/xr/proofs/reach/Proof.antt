@@ -1,16 +1,11 @@
 -- `xr::reach` meets its contract: block n is where it stands, and each need cites a law of one turn.
-use Prim.Native.Nat.{ℕ, _+_, _-_, _≤_, _<_}
-use mathlib.Core.Path.{_≡_, refl, sym, ap, _∙_}
+use Prim.Native.Nat.{_-_, _≤_}
 use native.Mathlib.Omega.{arith}
 use borrow.Author.Needs.{needs}
-use Rattle.def_wire.specs.Packet.{lengthAt}
 use Rattle.xr.specs.Parts.{Walking}
-use Rattle.xr.proofs.WalkTurn.{begun, turned, cut, ended, reached, unreached}
+use Rattle.xr.proofs.WalkTurn.{begun, turned, cut, reached, unreached}
 use Rattle.xr.proofs.reach.Statement.{statement}
 use Rattle.xr.proofs.reach.Tie as tie
-use Rattle.xr.proofs.reach.Reads as reads
-use Rattle.xr.proofs.reach.Lts as lts
-use Rattle.xr.proofs.length_at.Reads as length-at-reads
 
 abbrev Inv-loop : tie.InvT-loop
 Inv-loop s stop k at₀ n₀ at n = Walking s stop at n × (n ≤ k)
@@ -18,29 +13,23 @@ Inv-loop s stop k at₀ n₀ at n = Walking s stop at n × (n ≤ k)
 abbrev μ-loop : tie.MeasureT-loop
 μ-loop s stop k at₀ n₀ at n = k - n
 
--- src/lib.rt:139:5
 loop-holds : tie.Need-loop-holds Inv-loop μ-loop
 loop-holds c = let a = c .before .args in (begun (a .s .now) (a .stop) (c .before .pre .2), omega arith)
 
--- src/lib.rt:141:13
 returns : tie.Need-returns Inv-loop μ-loop
 returns c = let l = c .before .before in
     let a = l .before .before .args in
     reached (a .s .now) (a .stop) (a .k) (l .loop .at) (l .loop .n) (l .loop .inv .0) (l .loop .inv .1) (λ _. c .if1 .taken)
 
--- src/lib.rt:146:13
 length-at-requires : tie.Need-length-at-requires Inv-loop μ-loop
 length-at-requires c κs = let l = c .before .before in omega (arith, l .loop .inv .0 .word, l .loop .inv .0 .before, l .before .before .pre .0, l .before .before .pre .1, c .if1 .left)
 
--- src/lib.rt:147:12
 sub-if2 : tie.Need-sub-if2 Inv-loop μ-loop
 sub-if2 c = search needs
 
--- src/lib.rt:149:67
 sub-t10 : tie.Need-sub-t10 Inv-loop μ-loop
 sub-t10 c = search needs
 
--- src/lib.rt:148:13
 returns-2 : tie.Need-returns-2 Inv-loop μ-loop
 returns-2 c = let m = c .before in
     let l = m .before .before .before in
@@ -49,19 +38,15 @@ returns-2 c = let m = c .before in
     rw (m .length-at .ensures .0)
     (unreached (a .s .now) (a .stop) (a .k) (l .loop .at) _ (cut (a .s .now) (a .stop) (s .pre .0) (l .loop .at) (l .loop .n) (l .loop .inv .0) (m .before .if1 .left) (rw (m .length-at .ensures .0) at (c .if2 .taken))))
 
--- src/lib.rt:153:9
 add-at : tie.Need-add-at Inv-loop μ-loop
 add-at c = search needs
 
--- src/lib.rt:154:9
 add-n : tie.Need-add-n Inv-loop μ-loop
 add-n c = search needs
 
--- src/lib.rt:139:5
 loop-less : tie.Need-loop-less Inv-loop μ-loop
 loop-less c = search needs
 
--- src/lib.rt:139:5
 loop-again : tie.Need-loop-again Inv-loop μ-loop
 loop-again c = let m = c .before in
     let l = m .before .before .before in
@@ -70,7 +55,6 @@ loop-again c = let m = c .before in
     rw (m .length-at .ensures .0)
     (turned (a .s .now) (a .stop) (s .pre .0) (l .loop .at) (l .loop .n) (l .loop .inv .0) (m .before .if1 .left) (rw (m .length-at .ensures .0) at (c .if2 .left)), omega arith)
 
--- src/lib.rt:133:1
 returns-3 : tie.Need-returns-3 Inv-loop μ-loop
 returns-3 c = let l = c .before in
     let a = l .before .before .args in

@@ -1,63 +1,47 @@
 -- `xr::view` meets its contract: the part is within the packet, and begins where the block does.
-use Prim.Native.Nat.{ℕ, _+_, _-_}
-use mathlib.Core.Path.{_≡_, refl, sym, ap, _∙_}
-use native.Mathlib.Nat.{add-comm}
+use mathlib.Core.Path.{sym, _∙_}
 use native.Mathlib.Omega.{arith}
 use Rattle.xr.proofs.WalkLaws.{located-within, view-bytes, view-start, view-none, view-none-start}
 use borrow.Author.Needs.{needs}
 use Rattle.xr.proofs.view.Statement.{statement}
 use Rattle.xr.proofs.view.Tie as tie
-use Rattle.xr.proofs.view.Reads as reads
-use Rattle.xr.proofs.view.Lts as lts
-use Rattle.xr.proofs.locate.Reads as locate-reads
 
--- src/lib.rt:211:11
 locate-requires : tie.Need-locate-requires
 locate-requires c κs = search needs
 
--- src/lib.rt:212:21
 enum-known-at : tie.Need-enum-known-at
 enum-known-at c = search needs
 
--- src/lib.rt:212:38
 add-result : tie.Need-add-result
 add-result c = let a = c .before in
     let l = a .before .before in
     let i = l .before .before .args in
     omega (arith, located-within (i .r) (i .s .now) (i .k) (a .at .given .0 .0) (a .at .given .0 .1 .0) (sym (l .locate .ensures) ∙ a .at .given .1) .end)
 
--- src/lib.rt:212:31
 sub-result : tie.Need-sub-result
 sub-result c = search needs
 
--- src/lib.rt:212:31
 part-result-start : tie.Need-part-result-start
 part-result-start c = search needs
 
--- src/lib.rt:212:31
 part-result-end : tie.Need-part-result-end
 part-result-end c = let a = c .before in
     let l = a .before .before in
     let i = l .before .before .args in
     omega (arith, located-within (i .r) (i .s .now) (i .k) (a .at .given .0 .0) (a .at .given .0 .1 .0) (sym (l .locate .ensures) ∙ a .at .given .1) .end)
 
--- src/lib.rt:213:32
 enum-told : tie.Need-enum-told
 enum-told c = search needs
 
--- src/lib.rt:213:32
 sub-result-2 : tie.Need-sub-result-2
 sub-result-2 c = search needs
 
--- src/lib.rt:213:32
 part-result-start-2 : tie.Need-part-result-start-2
 part-result-start-2 c = search needs
 
--- src/lib.rt:213:32
 part-result-end-2 : tie.Need-part-result-end-2
 part-result-end-2 c = search needs
 
--- src/lib.rt:207:1
 returns : tie.Need-returns
 returns c = let a = c .before .before in
     let l = a .before .before in
@@ -65,7 +49,6 @@ returns c = let a = c .before .before in
     let e = sym (l .locate .ensures) ∙ a .at .given .1 in
     (view-bytes (i .s .now) (a .at .given .0 .0) (a .at .given .0 .1 .0) _ e, view-start (i .s .ptr) (a .at .given .0 .0) (a .at .given .0 .1 .0) _ e)
 
--- src/lib.rt:207:1
 returns-2 : tie.Need-returns-2
 returns-2 c = let a = c .before in
     let l = a .before .before in

@@ -1,16 +1,13 @@
 -- `xr::walk_on` meets its contract: block n is where it stands, and each need cites a law of one turn.
-use Prim.Native.Nat.{ℕ, _+_, _-_, _≤_, _<_}
-use mathlib.Core.Path.{_≡_, refl, sym, ap, _∙_}
+use Prim.Native.Nat.{_+_, _-_, _≤_, _<_}
+use mathlib.Core.Path.{_≡_}
 use native.Mathlib.Omega.{arith}
 use borrow.Author.Needs.{needs}
 use Rattle.def_wire.specs.Packet.{lengthAt}
 use Rattle.xr.specs.Parts.{Walking}
-use Rattle.xr.proofs.WalkTurn.{begun, turned, cut, ended, reached, unreached}
+use Rattle.xr.proofs.WalkTurn.{turned, cut, ended}
 use Rattle.xr.proofs.walk_on.Statement.{statement}
 use Rattle.xr.proofs.walk_on.Tie as tie
-use Rattle.xr.proofs.walk_on.Reads as reads
-use Rattle.xr.proofs.walk_on.Lts as lts
-use Rattle.xr.proofs.length_at.Reads as length-at-reads
 
 abbrev Inv-loop : tie.InvT-loop
 Inv-loop s stop from passed at₀ left₀ n₀ at left n = Walking s stop at n × (at + left ≡ stop)
@@ -22,19 +19,15 @@ abbrev μ-loop : tie.MeasureT-loop
 more : (m : tie.After-length-at Inv-loop μ-loop) → let l = m .before .before in l .loop .at < l .before .before .args .stop
 more m = let l = m .before .before in omega (arith, l .loop .inv .1, m .before .loop-test .taken)
 
--- src/lib.rt:168:20
 sub-left : tie.Need-sub-left Inv-loop μ-loop
 sub-left c = c .before .pre .2 .before
 
--- src/lib.rt:170:5
 loop-holds : tie.Need-loop-holds Inv-loop μ-loop
 loop-holds c = let s = c .before in (s .pre .2, omega (arith, s .pre .2 .before))
 
--- src/lib.rt:171:13
 length-at-requires : tie.Need-length-at-requires Inv-loop μ-loop
 length-at-requires c κs = let l = c .before in omega (arith, l .loop .inv .0 .word, l .loop .inv .1, l .before .before .pre .0, l .before .before .pre .1, c .loop-test .taken)
 
--- src/lib.rt:173:13
 returns : tie.Need-returns Inv-loop μ-loop
 returns c = let m = c .before in
     let l = m .before .before in
@@ -44,19 +37,15 @@ returns c = let m = c .before in
     let h : a .stop - l .loop .at < lengthAt (a .s .now) (l .loop .at) = omega (arith, e, m .length-at .ensures .0, c .if1 .taken) in
     rw (m .length-at .ensures .0, e) (cut (a .s .now) (a .stop) (s .pre .0) (l .loop .at) (l .loop .n) (l .loop .inv .0) (more m) h)
 
--- src/lib.rt:175:9
 add-at : tie.Need-add-at Inv-loop μ-loop
 add-at c = search needs
 
--- src/lib.rt:177:9
 add-n : tie.Need-add-n Inv-loop μ-loop
 add-n c = search needs
 
--- src/lib.rt:170:5
 loop-less : tie.Need-loop-less Inv-loop μ-loop
 loop-less c = let m = c .before in omega (arith, m .length-at .ensures .0, c .if1 .left)
 
--- src/lib.rt:170:5
 loop-again : tie.Need-loop-again Inv-loop μ-loop
 loop-again c = let m = c .before in
     let l = m .before .before in
@@ -66,7 +55,6 @@ loop-again c = let m = c .before in
     rw (m .length-at .ensures .0)
     (turned (a .s .now) (a .stop) (s .pre .0) (l .loop .at) (l .loop .n) (l .loop .inv .0) (more m) h, omega (arith, l .loop .inv .1, h))
 
--- src/lib.rt:163:1
 returns-2 : tie.Need-returns-2 Inv-loop μ-loop
 returns-2 c = let l = c .before in
     let a = l .before .before .args in

@@ -1,3 +1,4 @@
+-- `cursor::store_vector` meets its contract: stores the numbers of a vector's ones, from a place up to another.
 use Prim.Native.Nat.{_+_, _-_, _≤_, _<_}
 use mathlib.Core.Logic.{⊎-elim}
 use mathlib.Core.Path.{_≡_, sym, _∙_}
@@ -14,10 +15,6 @@ use Rattle.cursor.specs.Steps.{placesIn}
 use Rattle.cursor.proofs.PlacesLaws.{places-vector}
 use Rattle.cursor.proofs.store.store_vector.Statement.{statement}
 use Rattle.cursor.proofs.store.store_vector.Tie as tie
-use Rattle.cursor.proofs.store.store_vector.Reads as reads
-use Rattle.cursor.proofs.store.store_vector.Lts as lts
-use Rattle.cursor.proofs.store.bit_at.Reads as bit-at-reads
-use Rattle.std.proofs.num.wrapping_add_u16.Reads as wrapping-add-u16-reads
 
 abbrev Inv-loop : tie.InvT-loop
 Inv-loop out₀ at w from end first step q₀ n₀ x₀ out q n x =
@@ -45,41 +42,32 @@ zero : (c : tie.Else1 Inv-loop μ-loop) → let l = c .before .before .before in
 zero c = let l = c .before .before .before in let a = l .before .before .args in
     alongFrom-zero (a .step) (a .w) (a .end) (l .loop .q) (l .loop .x) (c .before .before .loop-test .taken) (has (c .before .before)) (λ v. c .if1 .left (c .before .bit-at .ensures ∙ v))
 
--- src/lib.rt:105:5
 loop-holds : tie.Need-loop-holds Inv-loop μ-loop
 loop-holds c = let a = c .before .args in
     let p = c .before .pre in
     (p .2, omega (arith, p .3), skip (places-vector (a .step) (a .first) (a .w) (a .from) (a .end)) (start (p .3)))
 
--- src/lib.rt:106:12
 bit-at-requires : tie.Need-bit-at-requires Inv-loop μ-loop
 bit-at-requires c κs = search needs
 
--- src/lib.rt:107:13
 mul-out : tie.Need-mul-out Inv-loop μ-loop
 mul-out c = search needs
 
--- src/lib.rt:107:13
 slice-write-out : tie.Need-slice-write-out Inv-loop μ-loop
 slice-write-out c = within (one c) (c .before .before .before .loop .inv .2)
 
--- src/lib.rt:108:13
 add-n : tie.Need-add-n Inv-loop μ-loop
 add-n c = search needs
 
--- src/lib.rt:110:9
 wrapping-add-u16-requires : tie.Need-wrapping-add-u16-requires Inv-loop μ-loop
 wrapping-add-u16-requires c κs = search needs
 
--- src/lib.rt:111:9
 add-q : tie.Need-add-q Inv-loop μ-loop
 add-q c = search needs
 
--- src/lib.rt:105:5
 loop-less : tie.Need-loop-less Inv-loop μ-loop
 loop-less c = search needs
 
--- src/lib.rt:105:5
 loop-again : tie.Need-loop-again Inv-loop μ-loop
 loop-again c = let j = c .before in
     let l = j .before .before .before in
@@ -89,11 +77,9 @@ loop-again c = let j = c .before in
     (λ w. let f = moved (w .1) (w .2) (skip (zero (record { before = j .before; if1 = w .0 })) (l .loop .inv .2)) in (omega arith, omega (arith, f .count, f .same, f .room), f))
     (j .if1 .came))
 
--- src/lib.rt:91:1
 same-length : tie.Need-same-length Inv-loop μ-loop
 same-length c = search needs
 
--- src/lib.rt:91:1
 returns : tie.Need-returns Inv-loop μ-loop
 returns c = let l = c .before in
     let a = l .before .before .args in

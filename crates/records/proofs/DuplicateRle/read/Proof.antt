@@ -2,37 +2,27 @@
 use Rattle.records.specs.declared.DuplicateOr.the-variants.{Duplicate}
 use Rattle.def_wire.specs.declared.Fields.{Fields}
 use Rattle.records.specs.Records.{duplicateOf}
-use mathlib.Core.Path.{_≡_, sym, ap, _∙_}
+use mathlib.Core.Path.{sym, ap, _∙_}
 use borrow.Author.Needs.{needs}
 use Rattle.records.proofs.DuplicateRle.read.Statement.{statement}
 use Rattle.records.proofs.DuplicateRle.read.Tie as tie
-use Rattle.records.proofs.DuplicateRle.read.Reads as reads
-use Rattle.records.proofs.DuplicateRle.read.Lts as lts
-use Rattle.block.proofs.fields_in.Reads as fields-in-reads
-use Rattle.records.proofs.DuplicateRle.new.Reads as new-reads
 
--- src/lib.rt:64:15
 fields-in-requires : tie.Need-fields-in-requires
 fields-in-requires c κs = search needs
 
--- src/lib.rt:65:29
 enum-known-f : tie.Need-enum-known-f
 enum-known-f c = search needs
 
--- src/lib.rt:65:58
 new-requires : tie.Need-new-requires
 new-requires c κs = search needs
 
--- src/lib.rt:66:30
 enum-known-x : tie.Need-enum-known-x
 enum-known-x c = search needs
 
--- src/lib.rt:61:5
 returns : tie.Need-returns
 returns c = let f = c .before .before in
     ap (λ (x : Fields). Duplicate (record { fields = x })) (c .new .ensures) ∙ ap duplicateOf (sym (sym (f .before .before .fields-in .ensures) ∙ f .f .given .1))
 
--- src/lib.rt:61:5
 returns-2 : tie.Need-returns-2
 returns-2 c = let x = c .before in ap duplicateOf (sym (sym (x .before .before .fields-in .ensures) ∙ x .x .given .1))
 

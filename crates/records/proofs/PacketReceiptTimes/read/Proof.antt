@@ -2,37 +2,27 @@
 use Rattle.records.specs.declared.ReceiptOr.the-variants.{Receipt}
 use Rattle.def_wire.specs.declared.Fields.{Fields}
 use Rattle.records.specs.Records.{receiptOf}
-use mathlib.Core.Path.{_≡_, sym, ap, _∙_}
+use mathlib.Core.Path.{sym, ap, _∙_}
 use borrow.Author.Needs.{needs}
 use Rattle.records.proofs.PacketReceiptTimes.read.Statement.{statement}
 use Rattle.records.proofs.PacketReceiptTimes.read.Tie as tie
-use Rattle.records.proofs.PacketReceiptTimes.read.Reads as reads
-use Rattle.records.proofs.PacketReceiptTimes.read.Lts as lts
-use Rattle.block.proofs.fields_in.Reads as fields-in-reads
-use Rattle.records.proofs.PacketReceiptTimes.new.Reads as new-reads
 
--- src/lib.rt:94:15
 fields-in-requires : tie.Need-fields-in-requires
 fields-in-requires c κs = search needs
 
--- src/lib.rt:95:29
 enum-known-f : tie.Need-enum-known-f
 enum-known-f c = search needs
 
--- src/lib.rt:95:54
 new-requires : tie.Need-new-requires
 new-requires c κs = search needs
 
--- src/lib.rt:96:30
 enum-known-x : tie.Need-enum-known-x
 enum-known-x c = search needs
 
--- src/lib.rt:91:5
 returns : tie.Need-returns
 returns c = let f = c .before .before in
     ap (λ (x : Fields). Receipt (record { fields = x })) (c .new .ensures) ∙ ap receiptOf (sym (sym (f .before .before .fields-in .ensures) ∙ f .f .given .1))
 
--- src/lib.rt:91:5
 returns-2 : tie.Need-returns-2
 returns-2 c = let x = c .before in ap receiptOf (sym (sym (x .before .before .fields-in .ensures) ∙ x .x .given .1))
 

@@ -2,37 +2,27 @@
 use Rattle.records.specs.declared.ClockOr.the-variants.{Clock}
 use Rattle.def_wire.specs.declared.LongTime.{LongTime}
 use Rattle.records.specs.Records.{clockOf}
-use mathlib.Core.Path.{_≡_, sym, ap, _∙_}
+use mathlib.Core.Path.{sym, ap, _∙_}
 use borrow.Author.Needs.{needs}
 use Rattle.records.proofs.ReceiverReferenceTime.read.Statement.{statement}
 use Rattle.records.proofs.ReceiverReferenceTime.read.Tie as tie
-use Rattle.records.proofs.ReceiverReferenceTime.read.Reads as reads
-use Rattle.records.proofs.ReceiverReferenceTime.read.Lts as lts
-use Rattle.block.proofs.time_in.Reads as time-in-reads
-use Rattle.records.proofs.ReceiverReferenceTime.new.Reads as new-reads
 
--- src/lib.rt:124:15
 time-in-requires : tie.Need-time-in-requires
 time-in-requires c κs = search needs
 
--- src/lib.rt:125:26
 enum-known-t : tie.Need-enum-known-t
 enum-known-t c = search needs
 
--- src/lib.rt:125:47
 new-requires : tie.Need-new-requires
 new-requires c κs = search needs
 
--- src/lib.rt:126:28
 enum-known-x : tie.Need-enum-known-x
 enum-known-x c = search needs
 
--- src/lib.rt:121:5
 returns : tie.Need-returns
 returns c = let f = c .before .before in
     ap (λ (x : LongTime). Clock (record { time = x })) (c .new .ensures) ∙ ap clockOf (sym (sym (f .before .before .time-in .ensures) ∙ f .t .given .1))
 
--- src/lib.rt:121:5
 returns-2 : tie.Need-returns-2
 returns-2 c = let x = c .before in ap clockOf (sym (sym (x .before .before .time-in .ensures) ∙ x .x .given .1))
 

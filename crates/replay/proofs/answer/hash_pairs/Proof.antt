@@ -1,15 +1,8 @@
+-- `replay::hash_pairs` meets its contract.
 use borrow.Author.Needs.{needs}
-use Prim.Native.Nat.{_+_, _*_, _-_, _≤_, _<_}
-use mathlib.Core.Path.{_≡_}
-use lib.ListN.{length}
+use Prim.Native.Nat.{_-_, _≤_}
 use Rattle.replay.proofs.answer.hash_pairs.Statement.{statement}
 use Rattle.replay.proofs.answer.hash_pairs.Tie as tie
-use Rattle.replay.proofs.answer.hash_pairs.Reads as reads
-use Rattle.replay.proofs.answer.hash_pairs.Lts as lts
-use Rattle.replay.proofs.answer.lesser.Reads as lesser-reads
-use Rattle.replay.proofs.answer.mixed.Reads as mixed-reads
-use Rattle.replay.proofs.answer.wide16.Reads as wide16-reads
-use Rattle.replay.proofs.answer.wide32.Reads as wide32-reads
 
 abbrev Inv-loop : tie.InvT-loop
 Inv-loop numbers times n stop h₀ i₀ h i = i ≤ stop
@@ -17,63 +10,48 @@ Inv-loop numbers times n stop h₀ i₀ h i = i ≤ stop
 abbrev μ-loop : tie.MeasureT-loop
 μ-loop numbers times n stop h₀ i₀ h i = stop - i
 
--- src/answer.rt:112:26
 lesser-requires : tie.Need-lesser-requires Inv-loop μ-loop
 lesser-requires c κs = search needs
 
--- src/answer.rt:112:9
 lesser-requires-2 : tie.Need-lesser-requires-2 Inv-loop μ-loop
 lesser-requires-2 c κs = search needs
 
--- src/answer.rt:115:5
 loop-holds : tie.Need-loop-holds Inv-loop μ-loop
 loop-holds c = search needs
 
--- src/answer.rt:116:35
 mul-wide16 : tie.Need-mul-wide16 Inv-loop μ-loop
 mul-wide16 c = search needs
 
--- src/answer.rt:116:35
 shared-slice-read-wide16 : tie.Need-shared-slice-read-wide16 Inv-loop μ-loop
 shared-slice-read-wide16 c = search needs
 
--- src/answer.rt:116:28
 wide16-requires : tie.Need-wide16-requires Inv-loop μ-loop
 wide16-requires c κs = search needs
 
--- src/answer.rt:116:19
 mixed-requires : tie.Need-mixed-requires Inv-loop μ-loop
 mixed-requires c κs = search needs
 
--- src/answer.rt:116:56
 mul-wide32 : tie.Need-mul-wide32 Inv-loop μ-loop
 mul-wide32 c = search needs
 
--- src/answer.rt:116:56
 shared-slice-read-wide32 : tie.Need-shared-slice-read-wide32 Inv-loop μ-loop
 shared-slice-read-wide32 c = search needs
 
--- src/answer.rt:116:49
 wide32-requires : tie.Need-wide32-requires Inv-loop μ-loop
 wide32-requires c κs = search needs
 
--- src/answer.rt:116:9
 mixed-requires-2 : tie.Need-mixed-requires-2 Inv-loop μ-loop
 mixed-requires-2 c κs = search needs
 
--- src/answer.rt:117:9
 add-i : tie.Need-add-i Inv-loop μ-loop
 add-i c = search needs
 
--- src/answer.rt:115:5
 loop-less : tie.Need-loop-less Inv-loop μ-loop
 loop-less c = search needs
 
--- src/answer.rt:115:5
 loop-again : tie.Need-loop-again Inv-loop μ-loop
 loop-again c = search needs
 
--- src/answer.rt:111:1
 returns : tie.Need-returns Inv-loop μ-loop
 returns c = search needs
 

@@ -1,11 +1,8 @@
+-- `replay::is_at` meets its contract.
 use borrow.Author.Needs.{needs}
-use Prim.Native.Nat.{_+_, _*_, _-_, _≤_, _<_}
-use mathlib.Core.Path.{_≡_}
-use lib.ListN.{length}
+use Prim.Native.Nat.{_-_, _≤_}
 use Rattle.replay.proofs.recorded.is_at.Statement.{statement}
 use Rattle.replay.proofs.recorded.is_at.Tie as tie
-use Rattle.replay.proofs.recorded.is_at.Reads as reads
-use Rattle.replay.proofs.recorded.is_at.Lts as lts
 
 abbrev Inv-loop : tie.InvT-loop
 Inv-loop list at text n i₀ i = i ≤ n
@@ -13,39 +10,30 @@ Inv-loop list at text n i₀ i = i ≤ n
 abbrev μ-loop : tie.MeasureT-loop
 μ-loop list at text n i₀ i = n - i
 
--- src/recorded.rt:93:5
 loop-holds : tie.Need-loop-holds Inv-loop μ-loop
 loop-holds c = search needs
 
--- src/recorded.rt:94:17
 add-if1 : tie.Need-add-if1 Inv-loop μ-loop
 add-if1 c = search needs
 
--- src/recorded.rt:94:12
 shared-slice-read-if1 : tie.Need-shared-slice-read-if1 Inv-loop μ-loop
 shared-slice-read-if1 c = search needs
 
--- src/recorded.rt:94:28
 shared-slice-read-if1-2 : tie.Need-shared-slice-read-if1-2 Inv-loop μ-loop
 shared-slice-read-if1-2 c = search needs
 
--- src/recorded.rt:95:13
 returns : tie.Need-returns Inv-loop μ-loop
 returns c = search needs
 
--- src/recorded.rt:97:9
 add-i : tie.Need-add-i Inv-loop μ-loop
 add-i c = search needs
 
--- src/recorded.rt:93:5
 loop-less : tie.Need-loop-less Inv-loop μ-loop
 loop-less c = search needs
 
--- src/recorded.rt:93:5
 loop-again : tie.Need-loop-again Inv-loop μ-loop
 loop-again c = search needs
 
--- src/recorded.rt:89:1
 returns-2 : tie.Need-returns-2 Inv-loop μ-loop
 returns-2 c = search needs
 

@@ -1,11 +1,9 @@
+-- `replay::next_line` meets its contract: where the next line begins, or the list's end.
 use borrow.Author.Needs.{needs}
-use Prim.Native.Nat.{_+_, _*_, _-_, _≤_, _<_}
-use mathlib.Core.Path.{_≡_}
+use Prim.Native.Nat.{_-_, _≤_}
 use lib.ListN.{length}
 use Rattle.replay.proofs.recorded.next_line.Statement.{statement}
 use Rattle.replay.proofs.recorded.next_line.Tie as tie
-use Rattle.replay.proofs.recorded.next_line.Reads as reads
-use Rattle.replay.proofs.recorded.next_line.Lts as lts
 
 abbrev Inv-loop : tie.InvT-loop
 Inv-loop list at i₀ i = (at ≤ i) × (i ≤ length list)
@@ -13,35 +11,27 @@ Inv-loop list at i₀ i = (at ≤ i) × (i ≤ length list)
 abbrev μ-loop : tie.MeasureT-loop
 μ-loop list at i₀ i = length list - i
 
--- src/recorded.rt:27:5
 loop-holds : tie.Need-loop-holds Inv-loop μ-loop
 loop-holds c = search needs
 
--- src/recorded.rt:28:12
 shared-slice-read-if1 : tie.Need-shared-slice-read-if1 Inv-loop μ-loop
 shared-slice-read-if1 c = search needs
 
--- src/recorded.rt:29:20
 add-result : tie.Need-add-result Inv-loop μ-loop
 add-result c = search needs
 
--- src/recorded.rt:29:13
 returns : tie.Need-returns Inv-loop μ-loop
 returns c = search needs
 
--- src/recorded.rt:31:9
 add-i : tie.Need-add-i Inv-loop μ-loop
 add-i c = search needs
 
--- src/recorded.rt:27:5
 loop-less : tie.Need-loop-less Inv-loop μ-loop
 loop-less c = search needs
 
--- src/recorded.rt:27:5
 loop-again : tie.Need-loop-again Inv-loop μ-loop
 loop-again c = search needs
 
--- src/recorded.rt:22:1
 returns-2 : tie.Need-returns-2 Inv-loop μ-loop
 returns-2 c = search needs
 

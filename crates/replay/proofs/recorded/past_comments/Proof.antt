@@ -1,12 +1,9 @@
+-- `replay::past_comments` meets its contract: the first line from a place on that is no comment, or the list's end.
 use borrow.Author.Needs.{needs}
-use Prim.Native.Nat.{_+_, _*_, _-_, _≤_, _<_}
-use mathlib.Core.Path.{_≡_}
+use Prim.Native.Nat.{_-_, _≤_}
 use lib.ListN.{length}
 use Rattle.replay.proofs.recorded.past_comments.Statement.{statement}
 use Rattle.replay.proofs.recorded.past_comments.Tie as tie
-use Rattle.replay.proofs.recorded.past_comments.Reads as reads
-use Rattle.replay.proofs.recorded.past_comments.Lts as lts
-use Rattle.replay.proofs.recorded.next_line.Reads as next-line-reads
 
 abbrev Inv-loop : tie.InvT-loop
 Inv-loop list at i₀ i = at ≤ i
@@ -14,31 +11,24 @@ Inv-loop list at i₀ i = at ≤ i
 abbrev μ-loop : tie.MeasureT-loop
 μ-loop list at i₀ i = length list - i
 
--- src/recorded.rt:39:5
 loop-holds : tie.Need-loop-holds Inv-loop μ-loop
 loop-holds c = search needs
 
--- src/recorded.rt:40:12
 shared-slice-read-if1 : tie.Need-shared-slice-read-if1 Inv-loop μ-loop
 shared-slice-read-if1 c = search needs
 
--- src/recorded.rt:41:13
 returns : tie.Need-returns Inv-loop μ-loop
 returns c = search needs
 
--- src/recorded.rt:43:9
 next-line-requires : tie.Need-next-line-requires Inv-loop μ-loop
 next-line-requires c κs = search needs
 
--- src/recorded.rt:39:5
 loop-less : tie.Need-loop-less Inv-loop μ-loop
 loop-less c = search needs
 
--- src/recorded.rt:39:5
 loop-again : tie.Need-loop-again Inv-loop μ-loop
 loop-again c = search needs
 
--- src/recorded.rt:37:1
 returns-2 : tie.Need-returns-2 Inv-loop μ-loop
 returns-2 c = search needs
 

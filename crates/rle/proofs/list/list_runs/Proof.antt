@@ -1,17 +1,16 @@
 -- `rle::list::list_runs` meets its contract: its invariant is `Ran`, and each need cites a law of one turn. Assumes nothing.
 use Prim.Native.Nat.{ℕ, _+_, _-_, _%_, _<_}
-use mathlib.Core.Bool.{true, _&&_}
+use mathlib.Core.Bool.{_&&_}
 use mathlib.Core.Path.{_≡_, sym, ap, _∙_}
 use native.Mathlib.Omega.{arith}
 use borrow.Author.Tests.{not-false}
 use borrow.Author.Needs.{needs}
 use lib.Dec.{ltb, leb}
 use lib.ListN.{length}
-use Rattle.laws.proofs.Stores.{Wrote, same}
+use Rattle.laws.proofs.Stores.{same}
 use Rattle.def_wire.specs.Bytes.{be16}
 use Rattle.def_crate.specs.Sequence.{movedBy}
-use Rattle.rle.specs.Along.{progression, past}
-use Rattle.rle.specs.Inside.{stepOf}
+use Rattle.rle.specs.Along.{past}
 use Rattle.rle.specs.Runs.{Ran}
 use Rattle.rle.proofs.RunsTurn.{past-moved, Clear, clear-run, begun, room, turned}
 use Rattle.rle.proofs.list.list_runs.Statement.{statement}

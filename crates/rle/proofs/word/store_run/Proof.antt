@@ -1,10 +1,9 @@
 -- `rle::word::store_run` meets its contract: what is still to be stored is the progression from the next number on. Assumes nothing.
-use Prim.Native.Nat.{ℕ, suc, _+_, _-_, _≤_}
+use Prim.Native.Nat.{_-_, _≤_}
 use mathlib.Core.Path.{_≡_, ap, _∙_}
 use mathlib.Core.List.{_∷_}
 use native.Mathlib.Omega.{arith}
 use borrow.Author.Needs.{needs}
-use lib.ListN.{length}
 use Rattle.rle.specs.Along.{onward, progression, past}
 use Rattle.rle.proofs.ListingLaws.{length-progression, progression-cons, progression-none, past-none, past-more}
 use Rattle.rle.proofs.Storing.{Storing, start, within, put, done}

@@ -1,37 +1,27 @@
 -- `xr::Xr::parse` meets its contract.
-use mathlib.Core.Path.{_≡_, sym, _∙_, ap}
+use mathlib.Core.Path.{sym, _∙_}
 use Rattle.xr.specs.Parts.{parsedOf}
 use borrow.Author.Needs.{needs}
 use Rattle.xr.proofs.Xr.parse.Statement.{statement}
 use Rattle.xr.proofs.Xr.parse.Tie as tie
-use Rattle.xr.proofs.Xr.parse.Reads as reads
-use Rattle.xr.proofs.Xr.parse.Lts as lts
-use Rattle.utils.proofs.u32_from_be_bytes.Reads as u32-from-be-bytes-reads
-use Rattle.xr.proofs.count.Reads as count-reads
 
--- src/lib.rt:45:15
 count-requires : tie.Need-count-requires
 count-requires c κs = search needs
 
--- src/lib.rt:46:26
 enum-known-n : tie.Need-enum-known-n
 enum-known-n c = search needs
 
--- src/lib.rt:48:23
 u32-from-be-bytes-requires : tie.Need-u32-from-be-bytes-requires
 u32-from-be-bytes-requires c κs = search needs
 
--- src/lib.rt:50:29
 enum-known-x : tie.Need-enum-known-x
 enum-known-x c = search needs
 
--- src/lib.rt:42:5
 returns : tie.Need-returns
 unfolding parsedOf
 returns c = let n = c .before .before in
     rw (sym (n .before .before .count .ensures) ∙ n .n .given .1, c .u32-from-be-bytes .ensures)
 
--- src/lib.rt:42:5
 returns-2 : tie.Need-returns-2
 unfolding parsedOf
 returns-2 c = let n = c .before in rw (sym (n .before .before .count .ensures) ∙ n .x .given .1)

@@ -1,12 +1,10 @@
+-- `xrprobe::fill16` meets its contract.
 use borrow.Author.Needs.{needs}
-use Prim.Native.Nat.{_≤_, _-_, _<_}
+use Prim.Native.Nat.{_≤_, _-_}
 use mathlib.Core.Path.{_≡_}
 use lib.ListN.{length}
 use Rattle.xrprobe.proofs.lent.fill16.Statement.{statement}
 use Rattle.xrprobe.proofs.lent.fill16.Tie as tie
-use Rattle.xrprobe.proofs.lent.fill16.Reads as reads
-use Rattle.xrprobe.proofs.lent.fill16.Lts as lts
-use Rattle.xrprobe.proofs.lent.mark16.Reads as mark16-reads
 
 abbrev Inv-loop : tie.InvT-loop
 Inv-loop list₀ i₀ list i = (i ≤ length list₀) × (length list ≡ length list₀)
@@ -14,39 +12,30 @@ Inv-loop list₀ i₀ list i = (i ≤ length list₀) × (length list ≡ length
 abbrev μ-loop : tie.MeasureT-loop
 μ-loop list₀ i₀ list i = length list₀ - i
 
--- src/lent.rt:19:5
 loop-holds : tie.Need-loop-holds Inv-loop μ-loop
 loop-holds c = search needs
 
--- src/lent.rt:20:19
 mark16-requires : tie.Need-mark16-requires Inv-loop μ-loop
 mark16-requires c κs = search needs
 
--- src/lent.rt:20:9
 mul-list : tie.Need-mul-list Inv-loop μ-loop
 mul-list c = search needs
 
--- src/lent.rt:20:9
 slice-write-list : tie.Need-slice-write-list Inv-loop μ-loop
 slice-write-list c = search needs
 
--- src/lent.rt:21:9
 add-i : tie.Need-add-i Inv-loop μ-loop
 add-i c = search needs
 
--- src/lent.rt:19:5
 loop-less : tie.Need-loop-less Inv-loop μ-loop
 loop-less c = search needs
 
--- src/lent.rt:19:5
 loop-again : tie.Need-loop-again Inv-loop μ-loop
 loop-again c = search needs
 
--- src/lent.rt:17:1
 same-length : tie.Need-same-length Inv-loop μ-loop
 same-length c = search needs
 
--- src/lent.rt:17:1
 returns : tie.Need-returns Inv-loop μ-loop
 returns c = search needs
 

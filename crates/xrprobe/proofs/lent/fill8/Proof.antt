@@ -1,12 +1,10 @@
+-- `xrprobe::fill8` meets its contract.
 use borrow.Author.Needs.{needs}
-use Prim.Native.Nat.{_≤_, _-_, _<_}
+use Prim.Native.Nat.{_≤_, _-_}
 use mathlib.Core.Path.{_≡_}
 use lib.ListN.{length}
 use Rattle.xrprobe.proofs.lent.fill8.Statement.{statement}
 use Rattle.xrprobe.proofs.lent.fill8.Tie as tie
-use Rattle.xrprobe.proofs.lent.fill8.Reads as reads
-use Rattle.xrprobe.proofs.lent.fill8.Lts as lts
-use Rattle.xrprobe.proofs.lent.mark8.Reads as mark8-reads
 
 abbrev Inv-loop : tie.InvT-loop
 Inv-loop list₀ i₀ list i = (i ≤ length list₀) × (length list ≡ length list₀)
@@ -14,35 +12,27 @@ Inv-loop list₀ i₀ list i = (i ≤ length list₀) × (length list ≡ length
 abbrev μ-loop : tie.MeasureT-loop
 μ-loop list₀ i₀ list i = length list₀ - i
 
--- src/lent.rt:35:5
 loop-holds : tie.Need-loop-holds Inv-loop μ-loop
 loop-holds c = search needs
 
--- src/lent.rt:36:19
 mark8-requires : tie.Need-mark8-requires Inv-loop μ-loop
 mark8-requires c κs = search needs
 
--- src/lent.rt:36:9
 slice-write-list : tie.Need-slice-write-list Inv-loop μ-loop
 slice-write-list c = search needs
 
--- src/lent.rt:37:9
 add-i : tie.Need-add-i Inv-loop μ-loop
 add-i c = search needs
 
--- src/lent.rt:35:5
 loop-less : tie.Need-loop-less Inv-loop μ-loop
 loop-less c = search needs
 
--- src/lent.rt:35:5
 loop-again : tie.Need-loop-again Inv-loop μ-loop
 loop-again c = search needs
 
--- src/lent.rt:33:1
 same-length : tie.Need-same-length Inv-loop μ-loop
 same-length c = search needs
 
--- src/lent.rt:33:1
 returns : tie.Need-returns Inv-loop μ-loop
 returns c = search needs
 
