@@ -1,7 +1,7 @@
 // One chunk word, taken apart and built by shifts and masks: kind bit, run bit, 14-bit length, place in the vector, most significant first
 // (RFC 3611, 4.1.1 to 4.1.3; document 01, "Packet and blocks"). Port of: rle.rs RleChunk.
 ghost use mathlib.Core.Path.{_≡_};
-ghost use Prim.Native.Nat.{_+_, _-_, _/_, _%_, _^_, _≤_, min};
+ghost use Prim.Native.Nat.{_+_, _-_, _/_, _%_, _^_, _≤_};
 ghost use lib.ListN.{length};
 ghost use Rattle.def_refusals.specs.Answers.{Listed};
 ghost use Rattle.def_standard.specs.Chunks.{coversOf, valueOf, chunkOf, wordOf, wordBytes};
@@ -64,13 +64,6 @@ pub fn value(w: u16, q: u16) -> u16
     }
 }
 
-// The lesser of two numbers.
-fn lesser(a: usize, b: usize) -> usize
-    ensures { λ r. ⌜ r ≡ min a b ⌝ }
-{
-    if a <= b { a } else { b }
-}
-
 // How many of a word's first places have value one, by arithmetic and a count of bits. Port of: rle.rs RleChunkIter::next, called until it
 // ends; differs: not place by place, and only up to the room asked.
 pub fn ones_before(w: u16, room: usize) -> usize
@@ -80,9 +73,9 @@ pub fn ones_before(w: u16, room: usize) -> usize
         if run_bit(w) == 0 {
             return 0;
         }
-        return lesser(room, run_length(w) as usize);
+        return utils::lesser(room, run_length(w) as usize);
     }
-    let unasked = 15 - lesser(room, 15);
+    let unasked = 15 - utils::lesser(room, 15);
     u32::count_ones((vector_bits(w) as u32) >> unasked) as usize
 }
 

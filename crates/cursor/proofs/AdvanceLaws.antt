@@ -24,8 +24,8 @@ use Rattle.def_wire.specs.Block.{fieldsAt, checkOf}
 use Rattle.def_standard.specs.declared.Range.{Range}
 use Rattle.def_standard.specs.Range.{circle, rangeOf}
 use Rattle.def_standard.specs.Standard.{standardWords}
-use Rattle.rle.specs.Inside.{insideCount}
-use Rattle.rle.proofs.InsideLaws.{inside-count-le}
+use Rattle.range.specs.Inside.{insideCount}
+use Rattle.range.proofs.InsideLaws.{inside-count-le}
 use Rattle.def_cursor.specs.declared.Cursor.{Cursor}
 use Rattle.def_cursor.specs.declared.Stretch.{Stretch}
 use Rattle.def_cursor.specs.declared.Advanced.{Advanced}

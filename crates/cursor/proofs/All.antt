@@ -8,7 +8,7 @@
 use Prim.Native.Nat.{ℕ, min, _≤_}
 use mathlib.Core.Path.{_≡_, refl, sym, ap, _∙_}
 use mathlib.Core.Bool.{true}
-use mathlib.Core.List.{List, _∷_, _++_}
+use mathlib.Core.List.{List, [], _∷_, _++_}
 use native.Mathlib.Omega.{arith}
 use lib.ListN.{length, take, drop}
 use lib.Seq.{take-append-seam}
@@ -18,7 +18,7 @@ use Rattle.def_wire.specs.Block.{fieldsAt}
 use Rattle.def_standard.specs.declared.Range.{Range}
 use Rattle.def_standard.specs.Range.{circle, rangeOf}
 use Rattle.def_standard.specs.Standard.{numbersOf, standardWords, standardNumbers}
-use Rattle.rle.specs.Inside.{insideCount}
+use Rattle.range.specs.Inside.{insideCount}
 use Rattle.def_cursor.specs.declared.Cursor.{Cursor}
 use Rattle.def_cursor.specs.declared.Stretch.{Stretch}
 use Rattle.def_cursor.specs.declared.Advanced.the-variants.{Moved}

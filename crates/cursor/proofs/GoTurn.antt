@@ -11,7 +11,8 @@ use lib.ListN.{length}
 use Rattle.def_standard.specs.declared.Range.{Range}
 use Rattle.def_standard.specs.Range.{circle, numberOf}
 use Rattle.rle.specs.Along.{along}
-use Rattle.rle.specs.Inside.{insideCount, stepOf}
+use Rattle.range.specs.Inside.{insideCount}
+use Rattle.range.specs.Steps.{stepOf}
 use Rattle.laws.proofs.Filling.{Filling, done}
 use Rattle.def_cursor.specs.declared.Cursor.{Cursor}
 use Rattle.def_cursor.specs.Cursor.{stepsIn, wordAt, legal, takenBy, afterSteps, listedBy}

@@ -3,7 +3,7 @@
 --     numbers-places                              numbers by positions are numbers one step apart, as far as the range goes
 use Prim.Native.Nat.{ℕ, zero, suc, _+_, _-_, _/_, _%_, min, _≤_, _<_}
 use mathlib.Core.Path.{_≡_, refl, _∙_}
-use mathlib.Core.List.{List}
+use mathlib.Core.List.{List, []}
 use native.Mathlib.Omega.{arith}
 use lib.ListN.{take, drop, replicate, length-take}
 use lib.Seq.{take-take, take-all}
@@ -15,7 +15,9 @@ use Rattle.def_standard.specs.Chunks.{coversOf, valuesIn}
 use Rattle.def_standard.specs.Range.{numberOf}
 use Rattle.chunk.proofs.ChunkLaws.{covers-run, values-run}
 use Rattle.rle.specs.Along.{along, progression}
-use Rattle.rle.specs.Inside.{insideCount, stepOf, numbersIn}
+use Rattle.range.specs.Inside.{insideCount}
+use Rattle.range.specs.Steps.{stepOf}
+use Rattle.rle.specs.Places.{numbersIn}
 use Rattle.rle.proofs.ListingLaws.{along-ones, along-zeros}
 use Rattle.rle.proofs.WordLaws.{take-replicate, alongFrom}
 use Rattle.rle.proofs.NumbersLaws.{numbers-along}

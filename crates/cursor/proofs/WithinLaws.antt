@@ -5,7 +5,7 @@
 use Prim.Native.Nat.{ℕ, zero, suc, _+_, min, _≤_, _<_}
 use mathlib.Core.Path.{_≡_, refl, sym, ap, _∙_}
 use mathlib.Core.Bool.{Bool, true, false, cond}
-use mathlib.Core.List.{List, _∷_, _++_}
+use mathlib.Core.List.{List, [], _∷_, _++_}
 use native.Mathlib.Omega.{arith}
 use native.Mathlib.Numerals.{add-one}
 use lib.ListN.{length, getD, drop-of-length-le}
@@ -18,7 +18,8 @@ use Rattle.def_standard.specs.Chunks.{coversOf, valueOf, valuesIn}
 use Rattle.def_standard.specs.Range.{circle, numberOf}
 use Rattle.def_standard.specs.Standard.{isListed}
 use Rattle.chunk.proofs.ChunkLaws.{length-valuesIn, values-at}
-use Rattle.rle.specs.Inside.{insideCount, numbersIn}
+use Rattle.range.specs.Inside.{insideCount}
+use Rattle.rle.specs.Places.{numbersIn}
 use Rattle.rle.proofs.NumbersLaws.{numbersIn-outside, numbersIn-cons}
 use Rattle.def_cursor.specs.declared.Cursor.{Cursor}
 use Rattle.def_cursor.specs.Cursor.{cursor, stepsIn, legal, nextPosition, stepOf, takenBy, afterSteps, listedBy}

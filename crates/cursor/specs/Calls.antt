@@ -3,7 +3,7 @@
 --     stretches    what stretches of those budgets list, joined: each one begins at the cursor where the one before it ended
 --     Calls        calls of `advance` on a block's view v, asked as type t: their budgets, the first cursor, and what they listed, joined
 use Prim.Native.Nat.{ℕ, _+_}
-use mathlib.Core.List.{List, _∷_, _++_}
+use mathlib.Core.List.{List, [], _∷_, _++_}
 use lib.ListN.{take}
 use Rattle.def_standard.specs.declared.Range.{Range}
 use Rattle.def_cursor.specs.declared.Cursor.{Cursor}

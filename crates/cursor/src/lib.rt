@@ -8,7 +8,7 @@ ghost use Prim.Native.Nat.{_+_, _-_, _≤_, _<_, min};
 ghost use lib.ListN.{length, getD};
 ghost use Rattle.def_wire.specs.Bytes.{words16};
 ghost use Rattle.def_standard.specs.Range.{circle};
-ghost use Rattle.rle.specs.Inside.{insideCount};
+ghost use Rattle.range.specs.Inside.{insideCount};
 ghost use Rattle.def_cursor.specs.Cursor.{legal, stepsIn, Stretched, StretchedIn};
 ghost use Rattle.cursor.specs.Steps.{movedIn, Gone, Advancing};
 use def_cursor::Advanced;
@@ -97,8 +97,8 @@ fn go(bytes: &[u8], g: Range, c: Cursor, budget: usize, out: &mut [u16]) -> Stre
     ensures { λ r. ⌜ Gone g (words16 (now (bytes .entry))) c budget (now (out .entry)) r (now (out .exit)) ⌝ }
 {
     let words = bytes.len() / 2;
-    let step = utils::doubled(1, g.thinning);
-    let inside = rle::inside_count(g);
+    let step = range::doubled(1, g.thinning);
+    let inside = range::inside_count(g);
     let mut at = c;
     let mut left = budget;
     let mut n: usize = 0;
@@ -115,7 +115,7 @@ fn go(bytes: &[u8], g: Range, c: Cursor, budget: usize, out: &mut [u16]) -> Stre
         let w = word_at(bytes, i);
         let takes = steps_in(w) - at.place;
         let room = lesser(lesser(left, takes), above(inside, at.position));
-        let first = rle::number_at(g, at.position);
+        let first = range::number_at(g, at.position);
         n = store::store_places(out, n, w, at.place, room, first, step);
         if left < takes {
             return Stretch {
@@ -157,7 +157,7 @@ pub fn advance(t: u8, v: &[u8], c: Cursor, budget: usize, out: &mut [u16]) -> Ad
 {
     match block::check(Reading::Standard, t, v) {
         Checked::Fine => {
-            let g = rle::range_of(block::fields_at(v));
+            let g = range::range_of(block::fields_at(v));
             let behind = lesser(12, v.len());
             advance_words(&v[behind..], g, c, budget, out)
         }

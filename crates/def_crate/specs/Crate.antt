@@ -3,7 +3,7 @@
 --     whileFrom     those before the first that fails
 use Prim.Native.Nat.{ℕ, suc, _-_}
 use mathlib.Core.Bool.{Bool, cond}
-use mathlib.Core.List.{List, _∷_, _++_, map}
+use mathlib.Core.List.{List, [], _∷_, _++_, map}
 use lib.ListN.{take, drop}
 use lib.Dec.{eqb}
 use Rattle.def_wire.specs.declared.Fields.{Fields}

@@ -1,7 +1,7 @@
 -- The packet that a job list asks for, in the plain and in the careful layout (document 01, "Job lists and writing").
 use Prim.Native.Nat.{ℕ, zero, suc, _+_, _*_, _-_, _/_, _%_}
 use mathlib.Core.Bool.{Bool, cond}
-use mathlib.Core.List.{List, _∷_, _++_}
+use mathlib.Core.List.{List, [], _∷_, _++_}
 use lib.ListN.{length, getD, replicate}
 use lib.Dec.{eqb}
 use Rattle.def_wire.specs.declared.Fields.{Fields}

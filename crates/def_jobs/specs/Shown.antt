@@ -1,7 +1,7 @@
 -- All that a block shows, and when two blocks show the same: fields, numbers, times and entries; not chunk words (document 01, "Job lists and writing").
 use Prim.Native.Nat.{ℕ}
 use mathlib.Core.Bool.{Bool, true, false, _&&_}
-use mathlib.Core.List.{List, _∷_}
+use mathlib.Core.List.{List, [], _∷_}
 use lib.Dec.{eqb}
 use Rattle.def_refusals.specs.Answers.{Or, shown, refused, onShown}
 use Rattle.def_wire.specs.declared.Reading.{Reading}

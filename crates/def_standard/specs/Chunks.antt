@@ -6,7 +6,7 @@
 --     wordBytes     its two bytes, or 13; making one chunk word is refusals' `Listed (wordBytes c)`, so 11 comes after 13
 use Prim.Native.Nat.{ℕ, zero, suc, _+_, _-_, _/_, _%_, _^_}
 use mathlib.Core.Bool.{cond}
-use mathlib.Core.List.{List, _∷_, map}
+use mathlib.Core.List.{List, [], _∷_, map}
 use lib.Dec.{ltb, leb, eqb}
 use Rattle.def_refusals.specs.declared.Refusal.the-variants.{ValueTooLarge}
 use Rattle.def_refusals.specs.Answers.{Or, shown, refused}

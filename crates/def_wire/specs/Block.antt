@@ -8,7 +8,7 @@
 --     fieldsOf, timeOf     the answers to the questions for fields and time
 use Prim.Native.Nat.{ℕ, _+_, _-_, _%_}
 use mathlib.Core.Bool.{Bool, true, false, cond}
-use mathlib.Core.List.{List, _∷_}
+use mathlib.Core.List.{List, [], _∷_}
 use lib.ListN.{length}
 use lib.Dec.{ltb, leb, eqb}
 use Rattle.def_refusals.specs.declared.Refusal.the-variants.{OtherType, BadBlockLength, NoFields}

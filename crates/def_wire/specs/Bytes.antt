@@ -3,7 +3,7 @@
 --     words16, words32     the whole words of a list of bytes, in order
 --     two, four, eight     a number's bytes
 use Prim.Native.Nat.{ℕ, _+_, _*_, _/_, _%_}
-use mathlib.Core.List.{List, _∷_, _++_}
+use mathlib.Core.List.{List, [], _∷_, _++_}
 use lib.ListN.{getD}
 
 abbrev pub byteAt : List ℕ → ℕ → ℕ

@@ -7,7 +7,7 @@
 --     nextPlace, viewFrom     the next block's place and the view, from a place
 use Prim.Native.Nat.{ℕ, zero, suc, _+_, _*_, _-_, _/_, _%_, min}
 use mathlib.Core.Bool.{Bool, false, cond, not, _||_}
-use mathlib.Core.List.{List}
+use mathlib.Core.List.{List, []}
 use lib.ListN.{length, take, drop}
 use lib.Dec.{ltb, leb, eqb}
 use Rattle.def_refusals.specs.declared.Refusal.the-variants.{TooShort, WrongVersion, WrongPacketType, WrongLength, BadPadding, BlockTooLong, NoBlock}

@@ -1,7 +1,7 @@
 -- The laws of `entriesOf`, entry by entry, and of its listing calls.
 use Prim.Native.Nat.{ℕ, _+_, _-_, _/_, _≤_, _<_}
 use mathlib.Core.Path.{_≡_, refl, ap, _∙_}
-use mathlib.Core.List.{List, _∷_, map}
+use mathlib.Core.List.{List, [], _∷_, map}
 use native.Mathlib.Omega.{arith}
 use lib.ListN.{length, drop, take, length-drop, length-map}
 use Rattle.def_refusals.specs.declared.Refusal.{Refusal}

@@ -1,7 +1,7 @@
 -- One turn of the loop that stores entries, on plain lists and numbers.
 use Prim.Native.Nat.{ℕ, _+_, _*_, _≤_, _<_}
 use mathlib.Core.Path.{_≡_, refl, ap}
-use mathlib.Core.List.{List, _∷_, map}
+use mathlib.Core.List.{List, [], _∷_, map}
 use native.Mathlib.Omega.{arith}
 use lib.ListN.{length, drop, set, length-map}
 use Rattle.laws.proofs.Filling.{Filling, start, within, put, done}

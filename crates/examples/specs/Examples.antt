@@ -1,7 +1,7 @@
 -- Document 01, "Twelve examples to prove together": one statement covers the list. proofs/Twelve.antt proves it by computation.
 use Prim.Native.Nat.{ℕ}
 use mathlib.Core.Path.{_≡_}
-use mathlib.Core.List.{_∷_, _++_}
+use mathlib.Core.List.{[], _∷_, _++_}
 use Rattle.def_refusals.specs.declared.Refusal.the-variants.{TooShort, BadBlockLength, Misleads}
 use Rattle.def_refusals.specs.declared.Answer.the-variants.{Done, Refused}
 use Rattle.def_refusals.specs.Numbers.{numbered, row}

@@ -1,6 +1,6 @@
 -- The packets and job lists of the twelve examples, byte by byte, a 32-bit word to a row.
 use Prim.Native.Nat.{ℕ}
-use mathlib.Core.List.{List, _∷_}
+use mathlib.Core.List.{List, [], _∷_}
 
 -- four bytes in front of the rest
 abbrev pub w4 : ℕ → ℕ → ℕ → ℕ → List ℕ → List ℕ

@@ -65,7 +65,7 @@ pub fn numbers(r: Reading, t: u8, v: &[u8], out: &mut [u16]) -> Answer
             let f = block::fields_at(v);
             let bytes = word_bytes(r, v);
             match r {
-                Reading::Standard => rle::fill_standard(bytes, rle::range_of(f), out),
+                Reading::Standard => rle::fill_standard(bytes, range::range_of(f), out),
                 Reading::Crate => rle::fill_crate(bytes, f.end, f.thinning, f.begin, out),
             }
         }

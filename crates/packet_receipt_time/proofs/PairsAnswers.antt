@@ -24,8 +24,8 @@ use Rattle.def_standard.specs.Range.{rangeOf, numberOf}
 use Rattle.def_crate.specs.Sequence.{doubledOf}
 use Rattle.def_questions.specs.Questions.{pairsIn, pairsShown, ListedPairs}
 use Rattle.def_questions.specs.Packets.{pairsAsked}
-use Rattle.rle.specs.Inside.{stepOf}
-use Rattle.rle.specs.Failing.{never}
+use Rattle.range.specs.Steps.{stepOf}
+use Rattle.range.specs.Failing.{never}
 use Rattle.packet_receipt_time.specs.Pairs.{listable, firstPairs, stepped, numberIn, timeIn, Stored}
 use Rattle.packet_receipt_time.proofs.PairsLaws.{pairs-standard, pairs-crate, first-all, first-stepped}
 

@@ -1,7 +1,7 @@
 -- Both readings list a first stretch of the times.
 use Prim.Native.Nat.{ℕ, zero, suc, _+_, _*_, _-_, _%_, _^_, _≤_, _<_, min}
 use mathlib.Core.Path.{_≡_, refl, sym, ap, _∙_}
-use mathlib.Core.List.{List, _∷_}
+use mathlib.Core.List.{List, [], _∷_}
 use native.Mathlib.Omega.{arith}
 use lib.ListN.{length}
 use lib.Dec.{ltb}
@@ -14,12 +14,12 @@ use Rattle.def_standard.specs.Range.{rangeOf, offsetOf, numberOf}
 use Rattle.def_standard.specs.Standard.{receipt, pairsFrom}
 use Rattle.def_crate.specs.Sequence.{sequenceOf, passes}
 use Rattle.def_crate.specs.Crate.{cratePairsFrom}
-use Rattle.rle.specs.Along.{onward}
-use Rattle.rle.specs.Inside.{insideCount, stepOf}
-use Rattle.rle.specs.Failing.{firstFail, never}
-use Rattle.rle.proofs.NumbersLaws.{numberOf-suc}
-use Rattle.rle.proofs.InsideLaws.{is-inside, is-outside}
-use Rattle.rle.proofs.FailLaws.{before-first, at-first}
+use Rattle.range.specs.Steps.{onward}
+use Rattle.range.specs.Inside.{insideCount}
+use Rattle.range.specs.Steps.{stepOf}
+use Rattle.range.specs.Failing.{firstFail, never}
+use Rattle.range.proofs.InsideLaws.{is-inside, is-outside, numberOf-suc}
+use Rattle.range.proofs.FailLaws.{before-first, at-first}
 use Rattle.packet_receipt_time.specs.Pairs.{firstPairs, stepped}
 
 -- ---- firstPairs

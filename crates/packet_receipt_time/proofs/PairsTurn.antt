@@ -9,7 +9,7 @@ use Rattle.def_wire.specs.Bytes.{be32, words32}
 use Rattle.def_standard.specs.declared.Receipt.{Receipt}
 use Rattle.def_standard.specs.Standard.{receipt}
 use Rattle.utils.proofs.BytesLaws.{words32-cons, length-words32}
-use Rattle.rle.specs.Along.{onward}
+use Rattle.range.specs.Steps.{onward}
 use Rattle.packet_receipt_time.specs.Pairs.{stepped, numberIn, timeIn, Stored}
 use Rattle.packet_receipt_time.proofs.PairsLaws.{stepped-none, stepped-cons, length-stepped}
 

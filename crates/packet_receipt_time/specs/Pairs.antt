@@ -5,7 +5,7 @@
 --     Stored        what storing a list of pairs leaves in two lists (private)
 use Prim.Native.Nat.{ℕ, zero, suc}
 use mathlib.Core.Path.{_≡_}
-use mathlib.Core.List.{List, _∷_, _++_, map}
+use mathlib.Core.List.{List, [], _∷_, _++_, map}
 use lib.ListN.{length, drop}
 use Rattle.def_wire.specs.declared.Reading.{Reading}
 use Rattle.def_wire.specs.declared.Reading.the-variants.{Standard, Crate}
@@ -14,9 +14,9 @@ use Rattle.def_standard.specs.declared.Range.{Range}
 use Rattle.def_standard.specs.declared.Receipt.{Receipt}
 use Rattle.def_standard.specs.Range.{rangeOf, numberOf}
 use Rattle.def_standard.specs.Standard.{receipt}
-use Rattle.rle.specs.Along.{onward}
-use Rattle.rle.specs.Inside.{insideCount}
-use Rattle.rle.specs.Failing.{firstFail}
+use Rattle.range.specs.Steps.{onward}
+use Rattle.range.specs.Inside.{insideCount}
+use Rattle.range.specs.Failing.{firstFail}
 
 abbrev pub listable : Reading → Fields → ℕ
 listable Standard f = insideCount (rangeOf f)

@@ -46,8 +46,8 @@ fn listable_of(r: Reading, f: Fields) -> usize
     ensures { λ n. ⌜ n ≡ listable r f ⌝ }
 {
     match r {
-        Reading::Standard => rle::inside_count(rle::range_of(f)),
-        Reading::Crate => rle::first_fail(f.begin, f.end, f.thinning),
+        Reading::Standard => range::inside_count(range::range_of(f)),
+        Reading::Crate => range::first_fail(f.begin, f.end, f.thinning),
     }
 }
 
@@ -82,8 +82,8 @@ pub fn pairs(r: Reading, v: &[u8], numbers: &mut [u16], times: &mut [u32]) -> An
             if room < n {
                 return Answer::Refused(Refusal::NoRoom(n, room));
             }
-            let first = rle::number_at(rle::range_of(f), 0);
-            let step = utils::doubled(1, f.thinning);
+            let first = range::number_at(range::range_of(f), 0);
+            let step = range::doubled(1, f.thinning);
             store(v, first, step, n, numbers, times);
             Answer::Done(n)
         }

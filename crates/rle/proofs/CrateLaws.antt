@@ -5,7 +5,7 @@
 use Prim.Native.Nat.{ℕ, suc, _+_, _*_, _-_, _%_, _^_, _≤_, _<_}
 use mathlib.Core.Path.{_≡_, refl, ap, _∙_}
 use mathlib.Core.Bool.{cond}
-use mathlib.Core.List.{List, _∷_, _++_, map}
+use mathlib.Core.List.{List, [], _∷_, _++_, map}
 use native.Mathlib.Nat.{mod-add-mod, add-mod-mod, mod-eq-of-lt, mod-lt}
 use native.Mathlib.Omega.{arith}
 use lib.ListN.{length, take, length-append, length-take}
@@ -18,22 +18,13 @@ use Rattle.def_standard.specs.Range.{circle}
 use Rattle.def_crate.specs.Sequence.{passes, sequenceOf, movedBy}
 use Rattle.def_crate.specs.Crate.{Try, whileFrom, onesIn, tryAt, triesFrom, crateNumbersFrom}
 use Rattle.chunk.proofs.ChunkLaws.{length-valuesIn, covers-lt}
-use Rattle.rle.specs.Along.{onward, along}
-use Rattle.rle.specs.Inside.{stepOf}
-use Rattle.rle.specs.Failing.{failsAt, stopFrom, stopAt, mostOf}
+use Rattle.range.specs.Steps.{onward}
+use Rattle.rle.specs.Along.{along}
+use Rattle.range.specs.Steps.{stepOf}
+use Rattle.rle.specs.Stops.{failsAt, stopFrom, stopAt, mostOf}
 use Rattle.rle.proofs.ListingLaws.{length-along-le}
+use Rattle.range.proofs.SequenceLaws.{sequenceOf-suc, sequenceOf-zero}
 use Rattle.rle.proofs.WordLaws.{word-zeros}
-
--- the next place's number is one step on
-pub sequenceOf-suc : (q start t : ℕ) → sequenceOf (suc q) start t ≡ onward (stepOf t) (sequenceOf q start t)
-sequenceOf-suc q start t = let m = 2 ^ t in
-    rw (mod-add-mod (suc q * m) circle start, mod-add-mod (q * m) circle start, mod-add-mod (q * m + start) circle (m % circle), add-mod-mod (q * m + start) m circle)
-    (ap (λ (x : ℕ). x % circle) (let e : suc q * m + start ≡ q * m + start + m = omega arith in e))
-
-sequenceOf-zero : (start t : ℕ) → start < 65536 → sequenceOf 0 start t ≡ start
-sequenceOf-zero start t h =
-    rw (mod-add-mod (0 * 2 ^ t) circle start)
-    (mod-eq-of-lt (let k : 0 * 2 ^ t + start < 65536 = omega arith in k) ∙ (let k : 0 * 2 ^ t + start ≡ start = omega arith in k))
 
 module _ (end t : ℕ) where
   -- the tries that pass, up to the first that fails

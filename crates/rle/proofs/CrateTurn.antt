@@ -2,7 +2,7 @@
 use Prim.Native.Nat.{ℕ, _+_, min, _≤_, _<_}
 use mathlib.Core.Path.{_≡_, ap, _∙_}
 use mathlib.Core.Bool.{cond}
-use mathlib.Core.List.{List, _∷_, _++_}
+use mathlib.Core.List.{List, [], _∷_, _++_}
 use native.Mathlib.Omega.{arith}
 use lib.ListN.{length, take, drop, length-take}
 use lib.Seq.{take-all, take-length}
@@ -15,8 +15,8 @@ use Rattle.def_crate.specs.Sequence.{movedBy}
 use Rattle.def_crate.specs.Crate.{crateNumbersFrom}
 use Rattle.utils.proofs.BytesLaws.{pairUp-cons, pairUp-end, length-pairUp}
 use Rattle.rle.specs.Along.{along}
-use Rattle.rle.specs.Inside.{stepOf}
-use Rattle.rle.specs.Failing.{stopAt, mostOf}
+use Rattle.range.specs.Steps.{stepOf}
+use Rattle.rle.specs.Stops.{stopAt, mostOf}
 use Rattle.rle.specs.Runs.{here}
 use Rattle.rle.proofs.WordLaws.{word-zeros}
 use Rattle.rle.proofs.StopLaws.{stop-zeros}

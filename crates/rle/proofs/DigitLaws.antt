@@ -5,7 +5,7 @@
 use Prim.Native.Nat.{ℕ, zero, suc, _+_, _*_, _-_, _/_, _%_, _^_, min, _≤_, _<_}
 use mathlib.Core.Path.{_≡_, refl, sym, ap, _∙_}
 use mathlib.Core.Bool.{Bool, true, false, cond, not}
-use mathlib.Core.List.{List, _∷_, map}
+use mathlib.Core.List.{List, [], _∷_, map}
 use native.Mathlib.Nat.{add-mul-div-right, add-mul-mod-self-right, div-eq-of-lt, mod-eq-of-lt, mod-lt, mod-add-mod, add-zero, pow-suc, div-one}
 use native.Mathlib.Omega.{arith}
 use lib.Dec.{ltb, lit<}
@@ -18,9 +18,10 @@ use Rattle.laws.proofs.Tests.{either}
 use Rattle.def_standard.specs.Chunks.{valuesIn, countFrom}
 use Rattle.def_crate.specs.Sequence.{passes, sequenceOf}
 use Rattle.chunk.proofs.ChunkLaws.{values-take-vector, length-valuesIn, covers-vector}
-use Rattle.rle.specs.Along.{onward, along}
+use Rattle.range.specs.Steps.{onward}
+use Rattle.rle.specs.Along.{along}
 use Rattle.rle.specs.Digits.{Top}
-use Rattle.rle.specs.Failing.{stopFrom}
+use Rattle.rle.specs.Stops.{stopFrom}
 
 unfoldable pub digits : ℕ → ℕ → List ℕ
 digits zero v = []

@@ -2,14 +2,15 @@
 use Prim.Native.Nat.{ℕ, zero, suc, _+_, _≤_}
 use mathlib.Core.Path.{_≡_, refl, sym, ap, _∙_}
 use mathlib.Core.Bool.{Bool, true, false, cond}
-use mathlib.Core.List.{List, _∷_, _++_}
+use mathlib.Core.List.{List, [], _∷_, _++_}
 use native.Mathlib.Nat.{add-zero}
 use native.Mathlib.Omega.{arith}
 use lib.ListN.{length, replicate}
 use lib.Dec.{eqb}
 use Rattle.laws.proofs.Tests.{both, either}
 use Rattle.def_standard.specs.Listing.{listFrom}
-use Rattle.rle.specs.Along.{onward, progression, past, along}
+use Rattle.range.specs.Steps.{onward}
+use Rattle.rle.specs.Along.{progression, past, along}
 
 -- x in front of either side of a choice
 cond-append : {A : Type 0} (b : Bool) (x : A) (l r : List A) → cond b (x ∷ l) l ++ r ≡ cond b (x ∷ (l ++ r)) (l ++ r)

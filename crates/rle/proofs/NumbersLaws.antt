@@ -6,7 +6,7 @@
 use Prim.Native.Nat.{ℕ, suc, _+_, _*_, _-_, _%_, _^_, _≤_, _<_}
 use mathlib.Core.Path.{_≡_, refl, ap}
 use mathlib.Core.Bool.{false, cond}
-use mathlib.Core.List.{List, _∷_, _++_}
+use mathlib.Core.List.{List, [], _∷_, _++_}
 use native.Mathlib.Nat.{mod-add-mod, add-mod-mod}
 use native.Mathlib.Omega.{arith}
 use lib.ListN.{length, take, getD, length-take}
@@ -20,10 +20,13 @@ use Rattle.def_standard.specs.Listing.{listFrom}
 use Rattle.def_standard.specs.Range.{numberOf, offsetOf, circle}
 use Rattle.def_standard.specs.Standard.{isListed, valuesOf, numbersFrom}
 use Rattle.chunk.proofs.ChunkLaws.{length-valuesIn}
-use Rattle.rle.specs.Along.{onward, along}
-use Rattle.rle.specs.Inside.{insideCount, stepOf, numbersIn, placesFrom, wordNumbers}
+use Rattle.range.specs.Steps.{onward}
+use Rattle.rle.specs.Along.{along}
+use Rattle.range.specs.Inside.{insideCount}
+use Rattle.range.specs.Steps.{stepOf}
+use Rattle.rle.specs.Places.{numbersIn, placesFrom, wordNumbers}
 use Rattle.rle.proofs.ListingLaws.{listFrom-append, listFrom-none, length-along-le}
-use Rattle.rle.proofs.InsideLaws.{is-inside, is-outside}
+use Rattle.range.proofs.InsideLaws.{is-inside, is-outside, numberOf-suc}
 
 module _ (g : Range) where
   -- no words, no numbers
@@ -48,13 +51,6 @@ module _ (g : Range) where
   unfolding numbersFrom numbersIn
   numbers-outside p ws h = numbersIn-outside p (valuesOf ws) h
 
-  -- the next position's number is one step on
-  pub numberOf-suc : (p : ℕ) → numberOf g (suc p) ≡ onward (stepOf (g .thinning)) (numberOf g p)
-  unfolding numberOf offsetOf
-  numberOf-suc p = let t = 2 ^ (g .thinning) in
-      rw (mod-add-mod (g .begin + p * t) circle (t % circle), add-mod-mod (g .begin + p * t) t circle)
-      (ap (λ (x : ℕ). x % circle) (let e : g .begin + suc p * t ≡ g .begin + p * t + t = omega arith in e))
-
   -- the definition by its short name
   numbersIn-is : (p : ℕ) (vs : List ℕ) → listFrom (isListed g) (λ q value. numberOf g q) p vs ≡ numbersIn g p vs
   unfolding numbersIn
@@ -74,7 +70,7 @@ module _ (g : Range) where
       either (ltb p (insideCount g))
       (λ t. let h : p < insideCount g = ltb-true _ _ t in
       let e : insideCount g - p ≡ suc (insideCount g - suc p) = omega arith in
-      rw (e, is-inside g p h, and-true-r, ← numberOf-suc p, ← numbers-along (suc p) vs))
+      rw (e, is-inside g p h, and-true-r, ← numberOf-suc g p, ← numbers-along (suc p) vs))
       (λ f. let h : insideCount g ≤ p = ltb-false _ _ f in
       let e : insideCount g - p ≡ 0 = omega arith in
       rw e (numbersIn-outside p (v ∷ vs) h))

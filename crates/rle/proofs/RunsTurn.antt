@@ -2,7 +2,7 @@
 use Prim.Native.Nat.{ℕ, zero, suc, _+_, _*_, min, _%_, _^_, _≤_, _<_}
 use mathlib.Core.Path.{_≡_, refl, sym, ap, _∙_}
 use mathlib.Core.Bool.{true, _&&_}
-use mathlib.Core.List.{List, _++_, append-assoc}
+use mathlib.Core.List.{List, [], _++_, append-assoc}
 use native.Mathlib.Nat.{add-zero, mod-lt}
 use native.Mathlib.Omega.{arith}
 use lib.Dec.{ltb, leb, lit<}
@@ -14,15 +14,17 @@ use Rattle.def_wire.specs.Bytes.{be16}
 use Rattle.chunk.proofs.ChunkLaws.{covers-run}
 use Rattle.def_standard.specs.Chunks.{coversOf}
 use Rattle.def_crate.specs.Sequence.{movedBy}
-use Rattle.rle.specs.Along.{onward, progression, past}
-use Rattle.rle.specs.Inside.{stepOf}
-use Rattle.rle.specs.Failing.{firstFail, stopAt}
+use Rattle.range.specs.Steps.{onward}
+use Rattle.rle.specs.Along.{progression, past}
+use Rattle.range.specs.Steps.{stepOf}
+use Rattle.range.specs.Failing.{firstFail}
+use Rattle.rle.specs.Stops.{stopAt}
 use Rattle.rle.specs.Runs.{here, Ran}
 use Rattle.rle.proofs.ListingLaws.{length-progression}
 use Rattle.rle.proofs.WordLaws.{word-ones}
-use Rattle.rle.proofs.StopLaws.{stop-clear, moved-sequence}
-use Rattle.rle.proofs.NextLaws.{next-same}
-use Rattle.rle.proofs.CrateLaws.{sequenceOf-suc}
+use Rattle.range.proofs.SequenceLaws.{moved-sequence, sequenceOf-suc}
+use Rattle.rle.proofs.StopLaws.{stop-clear}
+use Rattle.range.proofs.NextLaws.{next-same}
 use Rattle.rle.proofs.CrateTurn.{here-next}
 
 -- the number after a run is where the start moves to

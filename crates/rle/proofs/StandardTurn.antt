@@ -3,7 +3,7 @@
 --     here         what is still to be listed there
 use Prim.Native.Nat.{ℕ, _+_, _*_, _-_, _%_, _^_, _≤_, _<_}
 use mathlib.Core.Path.{_≡_, refl, sym, ap, _∙_}
-use mathlib.Core.List.{List, _++_}
+use mathlib.Core.List.{List, [], _++_}
 use native.Mathlib.Nat.{mod-add-mod, add-mod-mod, mod-eq-of-lt}
 use native.Mathlib.Omega.{arith}
 use lib.ListN.{length, take, drop}
@@ -15,7 +15,8 @@ use Rattle.def_standard.specs.Standard.{numbersFrom}
 use Rattle.def_crate.specs.Sequence.{movedBy}
 use Rattle.utils.proofs.BytesLaws.{pairUp-cons, pairUp-end}
 use Rattle.rle.specs.Along.{along}
-use Rattle.rle.specs.Inside.{insideCount, stepOf}
+use Rattle.range.specs.Inside.{insideCount}
+use Rattle.range.specs.Steps.{stepOf}
 use Rattle.chunk.specs.Ones.{onesBefore}
 use Rattle.rle.proofs.WordLaws.{length-ones}
 use Rattle.rle.proofs.Writing.{counted}

@@ -10,8 +10,9 @@ use Rattle.laws.proofs.Tests.{and-false-r}
 use Rattle.def_standard.specs.Chunks.{coversOf, valueOf, valuesIn}
 use Rattle.def_crate.specs.Sequence.{passes, sequenceOf, movedBy}
 use Rattle.chunk.proofs.ChunkLaws.{length-valuesIn, values-at, value-run, covers-lt}
-use Rattle.rle.specs.Failing.{failsAt, firstFail, never, stopFrom, stopAt}
-use Rattle.rle.proofs.FailLaws.{before-first, at-first}
+use Rattle.rle.specs.Stops.{failsAt, stopFrom, stopAt}
+use Rattle.range.specs.Failing.{firstFail, never}
+use Rattle.range.proofs.FailLaws.{before-first, at-first}
 
 module _ (start end t w : ℕ) where
   -- the first failing one among places q and on
@@ -72,7 +73,3 @@ module _ (start end t w : ℕ) where
         let some : firstFail start end t ≡ never → ⊥ = λ n. omega (arith, n, f, covers-lt w) in
         sym (stop-from (firstFail start end t) (omega arith) (omega arith))
         ∙ stop-fails (firstFail start end t) f one (at-first start end t s e some)
-
--- a place's number, as a start that moved so far
-pub moved-sequence : (q t start : ℕ) → movedBy q t start ≡ sequenceOf q start t
-moved-sequence q t start = ap (λ (x : ℕ). x % 65536) (let e : start + q * 2 ^ t % 65536 ≡ q * 2 ^ t % 65536 + start = omega arith in e)

@@ -1,7 +1,7 @@
 -- The numbers of one word's ones, up to a place: by kinds, and place by place. Assumes nothing.
 use Prim.Native.Nat.{ℕ, zero, suc, _+_, _-_, _/_, _%_, min, _≤_, _<_}
 use mathlib.Core.Path.{_≡_, sym, ap, _∙_}
-use mathlib.Core.List.{List, _∷_}
+use mathlib.Core.List.{List, [], _∷_}
 use native.Mathlib.Numerals.{add-one}
 use native.Mathlib.Omega.{arith}
 use lib.ListN.{length, take, drop, replicate}
@@ -11,7 +11,8 @@ use borrow.Author.Tests.{le-ltb, ltb-true, ltb-false, ne-eqb}
 use Rattle.laws.proofs.Tests.{either}
 use Rattle.def_standard.specs.Chunks.{coversOf, valueOf, valuesIn}
 use Rattle.chunk.proofs.ChunkLaws.{length-valuesIn, values-run, values-at}
-use Rattle.rle.specs.Along.{onward, progression, along}
+use Rattle.range.specs.Steps.{onward}
+use Rattle.rle.specs.Along.{progression, along}
 use Rattle.rle.proofs.ListingLaws.{along-ones, along-zeros, length-along}
 use Rattle.chunk.specs.Ones.{onesBefore}
 

@@ -2,17 +2,13 @@
 --     progression    a run of them
 --     past           the one after a run
 --     along          those of value one
-use Prim.Native.Nat.{ℕ, zero, suc, _+_, _%_}
+use Prim.Native.Nat.{ℕ, zero, suc}
 use mathlib.Core.Bool.{cond}
 use mathlib.Core.Path.{_≡_}
-use mathlib.Core.List.{List, _∷_, _++_}
+use mathlib.Core.List.{List, [], _∷_, _++_}
 use lib.ListN.{length, drop}
 use lib.Dec.{eqb}
-use Rattle.def_standard.specs.Range.{circle}
-
--- the number one step on
-abbrev pub onward : ℕ → ℕ → ℕ
-onward step first = (first + step) % circle
+use Rattle.range.specs.Steps.{onward}
 
 -- n numbers from the first on
 unfoldable pub progression : ℕ → ℕ → ℕ → List ℕ

@@ -8,7 +8,7 @@ use lib.ListN.{length, drop}
 use Rattle.laws.proofs.Stores.{Wrote}
 use Rattle.def_wire.specs.Bytes.{words16}
 use Rattle.def_crate.specs.Crate.{crateNumbersFrom}
-use Rattle.rle.specs.Failing.{firstFail}
+use Rattle.range.specs.Failing.{firstFail}
 
 abbrev pub here : ℕ → ℕ → List ℕ → ℕ → ℕ → List ℕ
 here end t bytes at start = crateNumbersFrom end t start (words16 (drop at bytes))

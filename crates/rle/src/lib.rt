@@ -13,62 +13,23 @@ ghost use Rattle.def_standard.specs.Standard.{numbersOf};
 ghost use Rattle.def_crate.specs.Crate.{crateNumbersFrom};
 ghost use Rattle.laws.proofs.Stores.{Wrote};
 ghost use Rattle.rle.specs.Along.{progression};
-ghost use Rattle.rle.specs.Inside.{insideCount};
-ghost use Rattle.rle.specs.Failing.{againOf, firstFail, longest};
+ghost use Rattle.range.specs.Inside.{insideCount};
+ghost use Rattle.range.specs.Failing.{againOf, firstFail};
+ghost use Rattle.rle.specs.Stops.{longest};
 use def_refusals::Answer;
 use def_refusals::Refusal;
 use def_standard::Range;
 use def_wire::Fields;
 
-// No place fails: larger than any place.
-const NEVER: usize = 18446744073709551615;
-
 // The crate reading's functions read no more bytes than the longest packet has.
 const LONGEST: usize = 262144;
-
-// The range that a block's fields name. RFC 3611, 4.1; document 01, "Standard reading".
-pub fn range_of(f: Fields) -> Range
-    ensures { λ r. ⌜ r ≡ rangeOf f ⌝ }
-{
-    let begin = f.begin;
-    let end = f.end;
-    let thinning = f.thinning;
-    if begin == end {
-        return Range {
-            begin,
-            size: 65536,
-            thinning,
-        };
-    }
-    let size = (end as usize + 65536 - begin as usize) % 65536;
-    Range {
-        begin,
-        size,
-        thinning,
-    }
-}
-
-// How many positions are inside the range: 0 .. inside_count - 1, and no others (document 01, "Standard reading").
-pub fn inside_count(g: Range) -> usize
-    ensures { λ r. ⌜ r ≡ insideCount g ⌝ }
-{
-    word::ceil_shift(g.size, g.thinning)
-}
-
-// The sequence number of a position, inside or not (RFC 3611, 4.1).
-pub fn number_at(g: Range, p: usize) -> u16
-    ensures { λ r. ⌜ r ≡ numberOf g p ⌝ }
-{
-    let begin = g.begin;
-    ((begin as usize + utils::times_two_to(p, g.thinning) % 65536) % 65536) as u16
-}
 
 // How many numbers the words list. One pass over the words, by arithmetic, up to the range's end (RFC 3611, 4.1; document 01, "Standard
 // reading"). Port of: rle.rs Rle::sequence_iter and its count; differs: the standard reading, and no walk over positions.
 pub fn count_standard(bytes: &[u8], g: Range) -> usize
     ensures { λ r. ⌜ r ≡ length (numbersOf g (words16 (now (bytes .entry)))) ⌝ }
 {
-    let mut left = inside_count(g);
+    let mut left = range::inside_count(g);
     let mut at: usize = 0;
     let mut n: usize = 0;
     while at + 1 < bytes.len() {
@@ -88,7 +49,7 @@ pub fn count_standard(bytes: &[u8], g: Range) -> usize
 pub fn fill_standard(bytes: &[u8], g: Range, out: &mut [u16]) -> Answer
     ensures { λ r. ⌜ Listed (shown (numbersOf g (words16 (now (bytes .entry))))) (now (out .entry)) r (now (out .exit)) ⌝ }
 {
-    if out.len() < inside_count(g) {
+    if out.len() < range::inside_count(g) {
         let need = count_standard(bytes, g);
         if out.len() < need {
             return Answer::Refused(Refusal::NoRoom(need, out.len()));
@@ -97,40 +58,12 @@ pub fn fill_standard(bytes: &[u8], g: Range, out: &mut [u16]) -> Answer
     Answer::Done(list::list_standard(bytes, g, out))
 }
 
-// As far from the start as this, and further, numbers pass the crate's test again.
-fn again_from(start: u16, end: u16) -> usize
-    ensures { λ r. ⌜ r ≡ againOf start end ⌝ }
-{
-    if start < end {
-        65536 - start as usize
-    } else {
-        65536
-    }
-}
-
-// The first place whose number, from a start on, fails the crate's test; the largest usize where none does. Every place before it passes
-// (document 01, "Crate reading"). Port of: xr/mod.rs xr_offset_sequence; differs: solved for the place.
-pub fn first_fail(start: u16, end: u16, thinning: u8) -> usize
-    ensures { λ r. ⌜ r ≡ firstFail start end thinning ⌝ }
-{
-    if 16 <= thinning {
-        return NEVER;
-    }
-    let gap = (end as usize + 65535 - start as usize) % 65536 + 1;
-    let q = word::ceil_shift(gap, thinning);
-    if utils::times_two_to(q, thinning) < again_from(start, end) {
-        q
-    } else {
-        NEVER
-    }
-}
-
 // How many numbers the crate lists, of at most the first 262,144 bytes: a longer slice is no part of a packet, and its count need not fit.
 // One pass over the words. Port of: rle.rs Rle::sequence_iter and its count; differs: no walk over positions.
 pub fn count_crate(bytes: &[u8], end: u16, thinning: u8, begin: u16) -> usize
     ensures { λ r. ⌜ r ≡ length (crateNumbersFrom end thinning begin (words16 (take longest (now (bytes .entry))))) ⌝ }
 {
-    let size = word::least(LONGEST, bytes.len());
+    let size = utils::lesser(LONGEST, bytes.len());
     list::tally_crate(&bytes[..size], end, thinning, begin)
 }
 
@@ -138,7 +71,7 @@ pub fn count_crate(bytes: &[u8], end: u16, thinning: u8, begin: u16) -> usize
 pub fn fill_crate(bytes: &[u8], end: u16, thinning: u8, begin: u16, out: &mut [u16]) -> Answer
     ensures { λ r. ⌜ Listed (shown (crateNumbersFrom end thinning begin (words16 (take longest (now (bytes .entry)))))) (now (out .entry)) r (now (out .exit)) ⌝ }
 {
-    let size = word::least(LONGEST, bytes.len());
+    let size = utils::lesser(LONGEST, bytes.len());
     let part = &bytes[..size];
     let most = list::at_most(part);
     if most == 0 {
@@ -160,7 +93,7 @@ pub fn put_run(out: &mut [u16], at: usize, count: usize, first: u16, step: u16) 
     if out.len() <= at {
         return at;
     }
-    let room = word::least(count, out.len() - at);
+    let room = utils::lesser(count, out.len() - at);
     let r = word::store_run(out, at, room, first, step);
     r.n
 }

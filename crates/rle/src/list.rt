@@ -8,8 +8,9 @@ ghost use Rattle.def_wire.specs.Bytes.{words16};
 ghost use Rattle.def_standard.specs.Standard.{numbersOf};
 ghost use Rattle.def_crate.specs.Crate.{crateNumbersFrom};
 ghost use Rattle.rle.specs.Along.{Filled};
-ghost use Rattle.rle.specs.Inside.{stepOf};
-ghost use Rattle.rle.specs.Failing.{mostOf, firstFail};
+ghost use Rattle.range.specs.Steps.{stepOf};
+ghost use Rattle.rle.specs.Stops.{mostOf};
+ghost use Rattle.range.specs.Failing.{firstFail};
 ghost use Rattle.rle.specs.Runs.{here, Ran};
 use def_standard::Range;
 
@@ -18,8 +19,8 @@ pub(crate) fn list_standard(bytes: &[u8], g: Range, out: &mut [u16]) -> usize
     requires { ⌜ length (numbersOf g (words16 (now bytes))) ≤ length (now out) ⌝ }
     ensures { λ r. ⌜ Filled (numbersOf g (words16 (now (bytes .entry)))) (now (out .entry)) r (now (out .exit)) ⌝ }
 {
-    let step = utils::doubled(1, g.thinning);
-    let mut left = crate::inside_count(g);
+    let step = range::doubled(1, g.thinning);
+    let mut left = range::inside_count(g);
     let mut first = g.begin;
     let mut at: usize = 0;
     let mut n: usize = 0;
@@ -31,7 +32,7 @@ pub(crate) fn list_standard(bytes: &[u8], g: Range, out: &mut [u16]) -> usize
             return n;
         }
         left -= covered as usize;
-        first = utils::moved_by(covered, g.thinning, first);
+        first = range::moved_by(covered, g.thinning, first);
         at += 2;
     }
     n
@@ -57,7 +58,7 @@ pub(crate) fn tally_crate(bytes: &[u8], end: u16, thinning: u8, begin: u16) -> u
     ensures { λ r. ⌜ r ≡ length (crateNumbersFrom end thinning begin (words16 (now (bytes .entry)))) ⌝ }
 {
     let mut start = begin;
-    let mut first = crate::first_fail(begin, end, thinning);
+    let mut first = range::first_fail(begin, end, thinning);
     let mut at: usize = 0;
     let mut n: usize = 0;
     while at + 1 < bytes.len() {
@@ -71,7 +72,7 @@ pub(crate) fn tally_crate(bytes: &[u8], end: u16, thinning: u8, begin: u16) -> u
             }
         }
         if covered != 0 {
-            let moved = utils::moved_by(covered, thinning, start);
+            let moved = range::moved_by(covered, thinning, start);
             first = crate::word::next_fail(first, covered, thinning, start, moved, end);
             start = moved;
         }
@@ -162,10 +163,10 @@ pub(crate) fn list_crate(bytes: &[u8], end: u16, thinning: u8, begin: u16, out: 
     requires { ⌜ length (crateNumbersFrom end thinning begin (words16 (now bytes))) ≤ length (now out) ⌝ }
     ensures { λ r. ⌜ Filled (crateNumbersFrom end thinning begin (words16 (now (bytes .entry)))) (now (out .entry)) r (now (out .exit)) ⌝ }
 {
-    let step = utils::doubled(1, thinning);
+    let step = range::doubled(1, thinning);
     let last = last_of(bytes);
     let mut start = begin;
-    let mut first = crate::first_fail(begin, end, thinning);
+    let mut first = range::first_fail(begin, end, thinning);
     let mut at: usize = 0;
     let mut n: usize = 0;
     while at < last {
@@ -187,7 +188,7 @@ pub(crate) fn list_crate(bytes: &[u8], end: u16, thinning: u8, begin: u16, out: 
             }
         }
         if covered != 0 {
-            let next = utils::moved_by(covered, thinning, start);
+            let next = range::moved_by(covered, thinning, start);
             first = crate::word::next_fail(first, covered, thinning, start, next, end);
             start = next;
         }

@@ -7,29 +7,11 @@ ghost use lib.ListN.{length, take};
 ghost use Rattle.def_standard.specs.Chunks.{coversOf, valueOf, valuesIn};
 ghost use Rattle.laws.proofs.Stores.{Wrote};
 ghost use Rattle.rle.specs.Along.{progression, past, along};
-ghost use Rattle.rle.specs.Inside.{ceilDiv};
-ghost use Rattle.rle.specs.Failing.{firstFail, stopAt};
+ghost use Rattle.range.specs.Inside.{ceilDiv};
+ghost use Rattle.range.specs.Failing.{firstFail};
+ghost use Rattle.rle.specs.Stops.{stopAt};
 ghost use Rattle.rle.specs.Digits.{Top};
 ghost use Rattle.def_crate.specs.Sequence.{movedBy};
-
-pub(crate) fn least(a: usize, b: usize) -> usize
-    ensures { λ r. ⌜ r ≡ min a b ⌝ }
-{
-    if a < b { a } else { b }
-}
-
-// a divided by 2 to the t, rounded up.
-pub(crate) fn ceil_shift(a: usize, t: u8) -> usize
-    ensures { λ r. ⌜ r ≡ ceilDiv a (2 ^ t) ⌝ }
-{
-    if a == 0 {
-        return 0;
-    }
-    if 64 <= t {
-        return 1;
-    }
-    ((a - 1) >> (t as usize)) + 1
-}
 
 // As many numbers as a word can list.
 pub(crate) fn weight(w: u16) -> u32
@@ -120,11 +102,11 @@ pub(crate) fn store_word(
         return at;
     }
     if w < 0x8000 {
-        let ones = least(room, chunk::run_length(w) as usize);
+        let ones = utils::lesser(room, chunk::run_length(w) as usize);
         let r = store_run(out, at, ones, first, step);
         return r.n;
     }
-    store_vector(out, at, w, least(room, 15), first, step)
+    store_vector(out, at, w, utils::lesser(room, 15), first, step)
 }
 
 // The place of a vector's first one that fails; 15 where none does.
@@ -137,7 +119,7 @@ fn stop_in_vector(w: u16, start: u16, end: u16, thinning: u8) -> usize
     while v != 0 {
         let j = top_bit(v);
         let q = 14 - j;
-        if !utils::passes(start, end, utils::moved_by(q as u16, thinning, start)) {
+        if !range::passes(start, end, range::moved_by(q as u16, thinning, start)) {
             return q;
         }
         v = without_top(v, j);
@@ -176,14 +158,14 @@ pub(crate) fn next_fail(
     requires { ⌜ (first ≡ firstFail start end thinning) × (moved ≡ movedBy covered thinning start) ⌝ }
     ensures { λ r. ⌜ r ≡ firstFail moved end thinning ⌝ }
 {
-    if first == crate::NEVER {
+    if first == range::NEVER {
         if start < end {
             return first;
         }
-        return crate::first_fail(moved, end, thinning);
+        return range::first_fail(moved, end, thinning);
     }
     if (covered as usize) < first {
         return first - covered as usize;
     }
-    crate::first_fail(moved, end, thinning)
+    range::first_fail(moved, end, thinning)
 }

@@ -7,7 +7,8 @@ use Rattle.cursor.specs.Steps.{placesIn, movedIn}
 use Rattle.def_cursor.specs.Cursor.{stepsIn, wordAt, listedBy}
 use Rattle.def_cursor.specs.declared.Cursor.{Cursor}
 use Rattle.rle.proofs.Writing.{wrote}
-use Rattle.rle.specs.Inside.{insideCount, stepOf}
+use Rattle.range.specs.Inside.{insideCount}
+use Rattle.range.specs.Steps.{stepOf}
 use Rattle.rle.specs.Along.{along}
 use Rattle.laws.proofs.Stores.{Wrote}
 use Rattle.laws.proofs.Filling.{Filling, start, room-for}

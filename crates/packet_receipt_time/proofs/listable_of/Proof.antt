@@ -1,6 +1,6 @@
 -- `packet_receipt_time::listable_of` meets its contract: how many positions a reading lists from the first on, whatever times there are.
 use Rattle.packet_receipt_time.proofs.PairsAnswers.{listable-standard, listable-crate}
-use Rattle.rle.specs.Inside.{insideCount}
+use Rattle.range.specs.Inside.{insideCount}
 use mathlib.Core.Path.{ap, _∙_}
 use borrow.Author.Needs.{needs}
 use Rattle.packet_receipt_time.proofs.listable_of.Statement.{statement}

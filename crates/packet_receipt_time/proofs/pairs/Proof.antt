@@ -10,8 +10,8 @@ use Rattle.def_wire.specs.Block.{fieldsAt}
 use Rattle.def_standard.specs.Range.{rangeOf, numberOf}
 use Rattle.def_questions.specs.Questions.{pairsShown}
 use Rattle.utils.proofs.BytesLaws.{length-words32, Bytes, be16-lt}
-use Rattle.rle.specs.Inside.{stepOf}
-use Rattle.rle.specs.Failing.{never}
+use Rattle.range.specs.Steps.{stepOf}
+use Rattle.range.specs.Failing.{never}
 use Rattle.packet_receipt_time.specs.Pairs.{listable, stepped}
 use Rattle.packet_receipt_time.proofs.PairsLaws.{length-stepped}
 use Rattle.packet_receipt_time.proofs.PairsAnswers.{pairs-fine, pairs-unfit, pairs-listed, pairs-full, pairs-refused, count-found, first-found, step-found}

@@ -5,19 +5,19 @@ use borrow.Author.Needs.{needs}
 use Rattle.rle.proofs.count_crate.Statement.{statement}
 use Rattle.rle.proofs.count_crate.Tie as tie
 
-least-requires : tie.Need-least-requires
-least-requires c κs = search needs
+lesser-requires : tie.Need-lesser-requires
+lesser-requires c κs = search needs
 
 slice-aggregate-tally-crate : tie.Need-slice-aggregate-tally-crate
-slice-aggregate-tally-crate c = length-part 262144 (c .before .least .result) (c .before .before .before .args .bytes .now) (c .before .least .ensures)
+slice-aggregate-tally-crate c = length-part 262144 (c .before .lesser .result) (c .before .before .before .args .bytes .now) (c .before .lesser .ensures)
 
 tally-crate-requires : tie.Need-tally-crate-requires
-tally-crate-requires c κs = omega (arith, length-part 262144 (c .before .least .result) (c .before .before .before .args .bytes .now) (c .before .least .ensures), c .before .least .ensures)
+tally-crate-requires c κs = omega (arith, length-part 262144 (c .before .lesser .result) (c .before .before .before .args .bytes .now) (c .before .lesser .ensures), c .before .lesser .ensures)
 
 returns : tie.Need-returns
 returns c = let f = c .before .before in
-    rw (← part 262144 (f .least .result) (f .before .before .args .bytes .now) (f .least .ensures)) (c .tally-crate .ensures)
+    rw (← part 262144 (f .lesser .result) (f .before .before .args .bytes .now) (f .lesser .ensures)) (c .tally-crate .ensures)
 
 pub count-crate-spec : {M : Type 1} → statement M
 count-crate-spec =
-    tie.close (tie.spec least-requires slice-aggregate-tally-crate tally-crate-requires returns)
+    tie.close (tie.spec lesser-requires slice-aggregate-tally-crate tally-crate-requires returns)

@@ -8,8 +8,8 @@ use Rattle.def_wire.specs.Bytes.{words16, be16}
 use Rattle.def_standard.specs.declared.Range.{Range}
 use Rattle.def_standard.specs.Chunks.{coversOf}
 use Rattle.def_standard.specs.Standard.{numbersOf}
-use Rattle.rle.specs.Inside.{insideCount}
-use Rattle.rle.proofs.InsideLaws.{inside-count-le}
+use Rattle.range.specs.Inside.{insideCount}
+use Rattle.range.proofs.InsideLaws.{inside-count-le}
 use Rattle.rle.proofs.NumbersLaws.{length-numbers}
 use Rattle.chunk.specs.Ones.{onesBefore}
 use Rattle.rle.proofs.StandardTurn.{here, here-start, here-end, count-room, count-last, count-next}

@@ -6,7 +6,7 @@ use Rattle.def_crate.specs.Crate.{crateNumbersFrom}
 use Rattle.def_wire.specs.Bytes.{words16}
 use Rattle.def_refusals.specs.Answers.{shown}
 use lib.ListN.{length, take}
-use mathlib.Core.List.{List, _∷_}
+use mathlib.Core.List.{List, [], _∷_}
 use native.Mathlib.Omega.{arith}
 use mathlib.Core.Path.{_≡_, refl, sym}
 use mathlib.Core.Logic.{⊎-elim}
@@ -16,13 +16,13 @@ use Rattle.rle.proofs.fill_crate.Statement.{statement}
 use Rattle.rle.proofs.fill_crate.Tie as tie
 
 -- the bytes that are read are no more than the longest packet has
-short : (c : tie.After-part) → let f = c .before in length (take (f .least .result) (f .before .before .before .args .bytes .now)) ≤ 262144
+short : (c : tie.After-part) → let f = c .before in length (take (f .lesser .result) (f .before .before .before .args .bytes .now)) ≤ 262144
 short c = let f = c .before in
-    omega (arith, length-part 262144 (f .least .result) (f .before .before .before .args .bytes .now) (f .least .ensures), f .least .ensures)
+    omega (arith, length-part 262144 (f .lesser .result) (f .before .before .before .args .bytes .now) (f .lesser .ensures), f .lesser .ensures)
 
 -- the numbers of those
-abbrev whole : tie.After-least → List ℕ
-whole f = let a = f .before .before .before .args in crateNumbersFrom (a .end) (a .thinning) (a .begin) (words16 (take (f .least .result) (a .bytes .now)))
+abbrev whole : tie.After-lesser → List ℕ
+whole f = let a = f .before .before .before .args in crateNumbersFrom (a .end) (a .thinning) (a .begin) (words16 (take (f .lesser .result) (a .bytes .now)))
 
 -- a list of none
 empty : (l : List ℕ) → length l ≡ 0 → l ≡ []
@@ -36,14 +36,14 @@ room c = let m = c .before .before in
     let a = f .before .before .before .args in
     ⊎-elim
     (λ w. omega (arith, w .1 .ensures, w .2 .left))
-    (λ w. omega (arith, w .left, m .at-most .ensures, length-crate (a .end) (a .thinning) (a .begin) (words16 (take (f .least .result) (a .bytes .now))) (omega arith)))
+    (λ w. omega (arith, w .left, m .at-most .ensures, length-crate (a .end) (a .thinning) (a .begin) (words16 (take (f .lesser .result) (a .bytes .now))) (omega arith)))
     (c .if2 .came)
 
-least-requires : tie.Need-least-requires
-least-requires c κs = search needs
+lesser-requires : tie.Need-lesser-requires
+lesser-requires c κs = search needs
 
 slice-aggregate-part : tie.Need-slice-aggregate-part
-slice-aggregate-part c = let a = c .before .before .before .before .args in length-part 262144 (c .before .least .result) (a .bytes .now) (c .before .least .ensures)
+slice-aggregate-part c = let a = c .before .before .before .before .args in length-part 262144 (c .before .lesser .result) (a .bytes .now) (c .before .lesser .ensures)
 
 at-most-requires : tie.Need-at-most-requires
 at-most-requires c κs = short c
@@ -52,9 +52,9 @@ returns : tie.Need-returns
 returns c = let m = c .before in
     let f = m .before .before in
     let a = f .before .before .before .args in
-    let e : length (whole f) ≡ 0 = omega (arith, c .if1 .taken, m .at-most .ensures, length-crate (a .end) (a .thinning) (a .begin) (words16 (take (f .least .result) (a .bytes .now))) (omega arith)) in
+    let e : length (whole f) ≡ 0 = omega (arith, c .if1 .taken, m .at-most .ensures, length-crate (a .end) (a .thinning) (a .begin) (words16 (take (f .lesser .result) (a .bytes .now))) (omega arith)) in
     let none = empty (whole f) e in
-    rw (← part 262144 (f .least .result) (a .bytes .now) (f .least .ensures))
+    rw (← part 262144 (f .lesser .result) (a .bytes .now) (f .lesser .ensures))
     (listed (shown (whole f)) (a .out .now) (whole f) _ _ refl (sym e) (omega (arith, e)) (rw none))
 
 tally-crate-requires : tie.Need-tally-crate-requires
@@ -64,7 +64,7 @@ returns-2 : tie.Need-returns-2
 returns-2 c = let n = c .before in
     let f = n .before .before .before .before .before in
     let a = f .before .before .before .args in
-    rw (← part 262144 (f .least .result) (a .bytes .now) (f .least .ensures))
+    rw (← part 262144 (f .lesser .result) (a .bytes .now) (f .lesser .ensures))
     (full (shown (whole f)) (a .out .now) (whole f) _ refl (n .tally-crate .ensures) (c .if3 .taken))
 
 list-crate-requires : tie.Need-list-crate-requires
@@ -78,14 +78,14 @@ returns-3 c = let r = c .before .before in
     let j = r .before .before in
     let f = j .before .before .before .before in
     let a = f .before .before .before .args in
-    rw (← part 262144 (f .least .result) (a .bytes .now) (f .least .ensures))
+    rw (← part 262144 (f .lesser .result) (a .bytes .now) (f .lesser .ensures))
     (listed (shown (whole f)) (a .out .now) (whole f) _ _ refl (r .list-crate .ensures .0) (room j) (r .list-crate .ensures .1))
 
 pub fill-crate-spec : {M : Type 1} → statement M
 fill-crate-spec =
     tie.close
     (tie.spec
-    least-requires
+    lesser-requires
     slice-aggregate-part
     at-most-requires
     returns

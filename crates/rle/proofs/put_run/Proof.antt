@@ -13,11 +13,11 @@ returns : tie.Need-returns
 returns c = let a = c .before .before .args in
     rw (progression-none (a .step) (a .first) (min (a .count) (length (a .out .now) - a .at)) (let h = c .if1 .taken in omega arith)) (record { stored = refl; past = sym (add-zero (a .at)) })
 
-sub-least : tie.Need-sub-least
-sub-least c = search needs
+sub-lesser : tie.Need-sub-lesser
+sub-lesser c = search needs
 
-least-requires : tie.Need-least-requires
-least-requires c κs = search needs
+lesser-requires : tie.Need-lesser-requires
+lesser-requires c κs = search needs
 
 store-run-requires : tie.Need-store-run-requires
 store-run-requires c κs = search needs
@@ -26,15 +26,15 @@ same-length : tie.Need-same-length
 same-length c = search needs
 
 returns-2 : tie.Need-returns-2
-returns-2 c = let r = c .before .before in rw (← r .before .before .least .ensures) (r .store-run .ensures .0)
+returns-2 c = let r = c .before .before in rw (← r .before .before .lesser .ensures) (r .store-run .ensures .0)
 
 pub put-run-spec : {M : Type 1} → statement M
 put-run-spec =
     tie.close
     (tie.spec
     returns
-    sub-least
-    least-requires
+    sub-lesser
+    lesser-requires
     store-run-requires
     same-length
     returns-2)

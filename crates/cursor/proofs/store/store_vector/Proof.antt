@@ -8,7 +8,8 @@ use borrow.Author.Tests.{le-ltb}
 use borrow.Author.Needs.{needs}
 use lib.ListN.{length}
 use Rattle.def_standard.specs.Chunks.{coversOf}
-use Rattle.rle.specs.Along.{along, onward}
+use Rattle.rle.specs.Along.{along}
+use Rattle.range.specs.Steps.{onward}
 use Rattle.rle.proofs.WordLaws.{alongFrom, alongFrom-end, alongFrom-one, alongFrom-zero}
 use Rattle.rle.proofs.Storing.{Storing, start, skip, moved, within, put, done}
 use Rattle.cursor.specs.Steps.{placesIn}

@@ -1,5 +1,5 @@
 -- `rle::list::list_crate` meets its contract: the loop fills from the front, from a start that moves. Assumes nothing.
-use Rattle.rle.proofs.NextLaws.{next-same}
+use Rattle.range.proofs.NextLaws.{next-same}
 use Prim.Native.Nat.{ℕ, _+_, _-_, _*_, _%_, _^_, _≤_, _<_}
 use mathlib.Core.List.{List, _++_}
 use mathlib.Core.Logic.{⊎-elim}
@@ -16,9 +16,10 @@ use Rattle.def_crate.specs.Crate.{crateNumbersFrom}
 use Rattle.laws.proofs.Filling.{Filling, start as begun, skip, moved as settled, room-for, done}
 use Rattle.laws.proofs.Stores.{Wrote, same}
 use Rattle.rle.specs.Along.{along}
-use Rattle.rle.specs.Inside.{stepOf}
+use Rattle.range.specs.Steps.{stepOf}
 use Rattle.rle.proofs.WordLaws.{along-same}
-use Rattle.rle.specs.Failing.{stopAt, firstFail}
+use Rattle.rle.specs.Stops.{stopAt}
+use Rattle.range.specs.Failing.{firstFail}
 use Rattle.rle.specs.Runs.{here}
 use Rattle.rle.proofs.CrateTurn.{added, here-end, here-word, here-zeros, here-last, here-next}
 use Rattle.rle.proofs.Writing.{wrote, wrote-last}

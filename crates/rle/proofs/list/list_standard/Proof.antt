@@ -13,7 +13,7 @@ use Rattle.laws.proofs.Filling.{Filling, start, skip, room-for, done}
 use Rattle.laws.proofs.Stores.{Wrote}
 use Rattle.rle.proofs.Writing.{wrote, wrote-last}
 use Rattle.rle.specs.Along.{along}
-use Rattle.rle.specs.Inside.{stepOf}
+use Rattle.range.specs.Steps.{stepOf}
 use Rattle.rle.proofs.StandardTurn.{Standing, here, begin-standing, here-start, here-end, here-word, here-last, here-next, next-standing}
 use Rattle.rle.proofs.list.list_standard.Statement.{statement}
 use Rattle.rle.proofs.list.list_standard.Tie as tie

@@ -1,5 +1,5 @@
 -- `rle::list::tally_crate` meets its contract: what is counted and what is still to be listed make up the whole. Assumes nothing.
-use Rattle.rle.proofs.NextLaws.{next-same}
+use Rattle.range.proofs.NextLaws.{next-same}
 use Prim.Native.Nat.{ℕ, _+_, _-_, _*_, _%_, _^_, _≤_, _<_}
 use mathlib.Core.Logic.{⊎-elim}
 use mathlib.Core.Path.{_≡_, refl, sym, ap, _∙_}
@@ -12,8 +12,9 @@ use Rattle.def_wire.specs.Bytes.{words16, be16}
 use Rattle.def_standard.specs.Chunks.{coversOf}
 use Rattle.def_crate.specs.Sequence.{movedBy}
 use Rattle.def_crate.specs.Crate.{crateNumbersFrom}
-use Rattle.rle.specs.Inside.{stepOf}
-use Rattle.rle.specs.Failing.{stopAt, firstFail}
+use Rattle.range.specs.Steps.{stepOf}
+use Rattle.rle.specs.Stops.{stopAt}
+use Rattle.range.specs.Failing.{firstFail}
 use Rattle.rle.proofs.WordLaws.{length-ones, along-same}
 use Rattle.rle.specs.Runs.{here}
 use Rattle.rle.proofs.CrateTurn.{added, length-here, here-end, here-zeros, count-room, count-last, count-next}

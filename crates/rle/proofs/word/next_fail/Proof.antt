@@ -1,5 +1,5 @@
 -- `rle::word::next_fail` meets its contract: by the laws of a moved start. Assumes nothing.
-use Rattle.rle.proofs.NextLaws.{next-never, next-less}
+use Rattle.range.proofs.NextLaws.{next-never, next-less}
 use native.Mathlib.Omega.{arith}
 use mathlib.Core.Path.{sym, _∙_}
 use borrow.Author.Needs.{needs}

@@ -1,6 +1,6 @@
 -- `rle::word::stop_at` meets its contract: by the word's kind and the first place that fails. Assumes nothing.
 use Rattle.rle.proofs.StopLaws.{stop-zeros, stop-clear, stop-ones}
-use Rattle.rle.specs.Failing.{firstFail}
+use Rattle.range.specs.Failing.{firstFail}
 use Rattle.def_standard.specs.Chunks.{coversOf}
 use native.Mathlib.Omega.{arith}
 use mathlib.Core.Path.{sym, _∙_}

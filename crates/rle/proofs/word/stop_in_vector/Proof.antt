@@ -7,9 +7,9 @@ use borrow.Author.Needs.{needs}
 use borrow.Author.Tests.{not-true, not-false}
 use lib.Pow.{pow-pos}
 use Rattle.def_crate.specs.Sequence.{passes, sequenceOf}
-use Rattle.rle.specs.Failing.{stopFrom, stopAt}
+use Rattle.rle.specs.Stops.{stopFrom, stopAt}
 use Rattle.rle.proofs.DigitLaws.{digits, digits-all, top-below, stop-none, stop-top}
-use Rattle.rle.proofs.StopLaws.{moved-sequence}
+use Rattle.range.proofs.SequenceLaws.{moved-sequence}
 use Rattle.rle.proofs.word.stop_in_vector.Statement.{statement}
 use Rattle.rle.proofs.word.stop_in_vector.Tie as tie
 

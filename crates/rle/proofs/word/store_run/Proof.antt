@@ -4,7 +4,8 @@ use mathlib.Core.Path.{_≡_, ap, _∙_}
 use mathlib.Core.List.{_∷_}
 use native.Mathlib.Omega.{arith}
 use borrow.Author.Needs.{needs}
-use Rattle.rle.specs.Along.{onward, progression, past}
+use Rattle.range.specs.Steps.{onward}
+use Rattle.rle.specs.Along.{progression, past}
 use Rattle.rle.proofs.ListingLaws.{length-progression, progression-cons, progression-none, past-none, past-more}
 use Rattle.rle.proofs.Storing.{Storing, start, within, put, done}
 use Rattle.rle.proofs.word.store_run.Statement.{statement}

@@ -20,11 +20,11 @@ returns c = let a = c .before .before .args in
 run-length-requires : tie.Need-run-length-requires
 run-length-requires c κs = search needs
 
-cast-least : tie.Need-cast-least
-cast-least c = search needs
+cast-lesser : tie.Need-cast-lesser
+cast-lesser c = search needs
 
-least-requires : tie.Need-least-requires
-least-requires c κs = search needs
+lesser-requires : tie.Need-lesser-requires
+lesser-requires c κs = search needs
 
 store-run-requires : tie.Need-store-run-requires
 store-run-requires c κs = let m = c .before in
@@ -33,7 +33,7 @@ store-run-requires c κs = let m = c .before in
     let a = s .args in
     let e = word-ones (a .step) (a .first) (a .room) (a .w) (t .before .if1 .left) (t .if2 .taken) in
     let k : length (along (a .step) (a .first) (take (a .room) (valuesIn (a .w)))) ≡ min (a .room) (a .w % 16384) = ap length e ∙ length-progression _ _ _ in
-    omega (arith, s .pre, m .least .ensures, m .before .run-length .ensures, k)
+    omega (arith, s .pre, m .lesser .ensures, m .before .run-length .ensures, k)
 
 same-length : tie.Need-same-length
 same-length c = search needs
@@ -44,17 +44,17 @@ returns-2 c = let r = c .before .before in
     let t = m .before .before in
     let s = t .before .before .before in
     let a = s .args in
-    rw (word-ones (a .step) (a .first) (a .room) (a .w) (t .before .if1 .left) (t .if2 .taken), ← m .before .run-length .ensures, ← m .least .ensures)
+    rw (word-ones (a .step) (a .first) (a .room) (a .w) (t .before .if1 .left) (t .if2 .taken), ← m .before .run-length .ensures, ← m .lesser .ensures)
     (r .store-run .ensures .0)
 
-least-requires-2 : tie.Need-least-requires-2
-least-requires-2 c κs = search needs
+lesser-requires-2 : tie.Need-lesser-requires-2
+lesser-requires-2 c κs = search needs
 
 store-vector-requires : tie.Need-store-vector-requires
 store-vector-requires c κs = let t = c .before .before in
     let s = t .before .before .before in
     let a = s .args in
-    (t .if2 .left, omega arith, rw (c .least2 .ensures, word-vector (a .step) (a .first) (a .room) (a .w) (t .if2 .left)) (s .pre))
+    (t .if2 .left, omega arith, rw (c .lesser2 .ensures, word-vector (a .step) (a .first) (a .room) (a .w) (t .if2 .left)) (s .pre))
 
 same-length-2 : tie.Need-same-length-2
 same-length-2 c = search needs
@@ -64,7 +64,7 @@ returns-3 c = let r = c .before .before in
     let t = r .before .before .before in
     let s = t .before .before .before in
     let a = s .args in
-    rw (← word-vector (a .step) (a .first) (a .room) (a .w) (t .if2 .left), ← r .before .least2 .ensures) (r .store-vector .ensures)
+    rw (← word-vector (a .step) (a .first) (a .room) (a .w) (t .if2 .left), ← r .before .lesser2 .ensures) (r .store-vector .ensures)
 
 pub store-word-spec : {M : Type 1} → statement M
 store-word-spec =
@@ -72,12 +72,12 @@ store-word-spec =
     (tie.spec
     returns
     run-length-requires
-    cast-least
-    least-requires
+    cast-lesser
+    lesser-requires
     store-run-requires
     same-length
     returns-2
-    least-requires-2
+    lesser-requires-2
     store-vector-requires
     same-length-2
     returns-3)
