@@ -1,26 +1,25 @@
 -- The laws of the walk: its steps as a loop goes, and where the blocks that it counts lie.
-use Prim.Native.Nat.{ℕ, zero, suc, _+_, _-_, _%_, _≤_, _<_}
+use Prim.Native.Nat.{ℕ, zero, suc, _+_, _-_, _≤_, _<_, min}
 use mathlib.Core.Path.{_≡_, refl}
-use mathlib.Core.Bool.{true, false, _&&_}
-use mathlib.Core.List.{List, []}
-use native.Mathlib.Nat.{add-comm, zero-add}
+use mathlib.Core.List.{List}
+use native.Mathlib.Nat.{add-zero}
 use native.Mathlib.Numerals.{add-one}
 use native.Mathlib.Omega.{arith}
-use lib.ListN.{length, take, drop}
+use lib.ListN.{length}
 use lib.Dec.{ltb, leb, eqb}
-use borrow.Author.Tests.{lt-ltb, le-ltb, le-leb, lt-leb, eq-eqb, ltb-true, ltb-false, leb-true, leb-false, eqb-true, eqb-false}
-use Rattle.laws.proofs.Tests.{by-test, either, and-true}
+use borrow.Author.Tests.{lt-ltb, le-ltb, le-leb, lt-leb, ltb-true, ltb-false, leb-false, eqb-true, eqb-false}
+use Rattle.laws.proofs.Tests.{by-test, either}
 use Rattle.def_refusals.specs.declared.Refusal.{Refusal}
-use Rattle.def_refusals.specs.declared.Refusal.the-variants.{WrongLength, BlockTooLong, NoBlock}
+use Rattle.def_refusals.specs.declared.Refusal.the-variants.{BlockTooLong, NoBlock}
 use Rattle.def_refusals.specs.declared.Answer.{Answer}
 use Rattle.def_refusals.specs.declared.Answer.the-variants.{Done, Refused}
 use Rattle.def_wire.specs.declared.Reading.{Reading}
 use Rattle.def_wire.specs.declared.Reading.the-variants.{Standard, Crate}
 use Rattle.def_wire.specs.declared.Located.{Located}
 use Rattle.def_wire.specs.declared.Located.the-variants.{At, Missing}
-use Rattle.def_wire.specs.Packet.{headerOf, lengthAt, placeOf, walkFrom, walkTo, countOf, sizeAt, pickBlock, locate}
-use Rattle.xr.specs.Parts.{isEnd, found, partAt, bytesAt}
-use Rattle.xr.proofs.HeaderLaws.{Fine, header-fine}
+use Rattle.def_wire.specs.Packet.{headerOf, lengthAt, placeOf, walkFrom, walkTo, countOf, sizeAt, pickBlock, locate, part, partAt, bytesAt, startFrom}
+use Rattle.xr.specs.Walks.{found}
+use Rattle.xr.proofs.HeaderLaws.{header-fine}
 
 -- one turn of the walk at the place of block n, with fuel left
 module _ (s : List ℕ) (stop at n : ℕ) where
@@ -79,38 +78,21 @@ module _ (r : Reading) (s : List ℕ) (k : ℕ) where
   unfolding locate countOf
   located-refused x h = rw h
 
--- where blocks can end
-pub end-fine : (s : List ℕ) (stop : ℕ) → isEnd s stop ≡ true → Fine s stop
-end-fine s stop e =
-    let a = and-true (leb stop (length s)) (eqb (stop % 4) 0 && leb 8 stop) e in
-    let b = and-true (eqb (stop % 4) 0) (leb 8 stop) (a .1) in
-    record { within = leb-true _ _ (a .0); whole = eqb-true _ _ (b .0); least = leb-true _ _ (b .1) }
-
-fine-end : (s : List ℕ) (stop : ℕ) → Fine s stop → isEnd s stop ≡ true
-fine-end s stop f = rw (le-leb _ _ (f .within), eq-eqb _ _ (f .whole), le-leb _ _ (f .least))
-
+-- among the blocks up to where the header says that they end
 module _ (r : Reading) (s : List ℕ) (stop k : ℕ) where
-  -- up to the end that the header gives
   pub found-located : headerOf r s ≡ Done stop → found r s stop k ≡ locate r s k
-  unfolding locate countOf found
-  found-located h = rw (h, fine-end s stop (header-fine r s stop h))
+  unfolding locate countOf
+  found-located h = rw h
 
-  pub found-no-end : isEnd s stop ≡ false → Missing (WrongLength stop (length s)) ≡ found r s stop k
-  unfolding found
-  found-no-end e = rw e
+  pub found-done : (n : ℕ) → walkFrom s stop (length s) 8 0 ≡ Done n → k < n
+      → At (placeOf s k) (sizeAt r s (placeOf s k)) ≡ found r s stop k
+  found-done n w l = rw (w, lt-ltb _ _ l)
 
-  module _ (e : isEnd s stop ≡ true) where
-    pub found-done : (n : ℕ) → walkFrom s stop (length s) 8 0 ≡ Done n → k < n → At (placeOf s k) (sizeAt r s (placeOf s k)) ≡ found r s stop k
-    unfolding found
-    found-done n w l = rw (e, w, lt-ltb _ _ l)
+  pub found-none : (n : ℕ) → walkFrom s stop (length s) 8 0 ≡ Done n → n ≤ k → Missing (NoBlock n) ≡ found r s stop k
+  found-none n w l = rw (w, le-ltb _ _ l)
 
-    pub found-none : (n : ℕ) → walkFrom s stop (length s) 8 0 ≡ Done n → n ≤ k → Missing (NoBlock n) ≡ found r s stop k
-    unfolding found
-    found-none n w l = rw (e, w, le-ltb _ _ l)
-
-    pub found-cut : (x : Refusal) → walkFrom s stop (length s) 8 0 ≡ Refused x → Missing x ≡ found r s stop k
-    unfolding found
-    found-cut x w = rw (e, w)
+  pub found-cut : (x : Refusal) → walkFrom s stop (length s) 8 0 ≡ Refused x → Missing x ≡ found r s stop k
+  found-cut x w = rw w
 
 -- an accepted packet: its header is accepted, and its walk counts the blocks
 pub record Counted (r : Reading) (s : List ℕ) (n : ℕ) : Type 0 where
@@ -178,15 +160,16 @@ size-standard r s p n e k = rw (e, k)
 pub size-crate : (r : Reading) (s : List ℕ) (p : ℕ) → r ≡ Crate → At p (length s - p) ≡ At p (sizeAt r s p)
 size-crate r s p e = rw e
 
--- a part of a slice by its start and its end is the view of so many bytes
-pub view-bytes : (s : List ℕ) (at n : ℕ) (l : Located) → l ≡ At at n → take (at + n - at) (drop at s) ≡ bytesAt s l
-view-bytes s at n l e = let k : at + n - at ≡ n = omega arith in rw (e, k)
+-- the part of a packet where a view lies
+pub view-bytes : (s : List ℕ) (at n : ℕ) (l : Located) → l ≡ At at n → part s at n ≡ bytesAt s l
+view-bytes s at n l e = rw e
 
-pub view-start : (p : ℕ × ℕ) (at n : ℕ) (l : Located) → l ≡ At at n → _≡_ {A = ℕ × ℕ} (p .0, at + p .1) (partAt p l)
-view-start p at n l e = rw (e, add-comm at (p .1))
+pub view-start : (p : ℕ × ℕ) (s : List ℕ) (at n : ℕ) (l : Located) → l ≡ At at n → at ≤ length s
+    → startFrom p s at ≡ partAt p l
+view-start p s at n l e h = let k : min at (length s) ≡ at = omega arith in rw (e, k)
 
-pub view-none : (s : List ℕ) (l : Located) (x : Refusal) → l ≡ Missing x → [] ≡ bytesAt s l
+pub view-none : (s : List ℕ) (l : Located) (x : Refusal) → l ≡ Missing x → part s 0 0 ≡ bytesAt s l
 view-none s l x e = rw e
 
-pub view-none-start : (p : ℕ × ℕ) (l : Located) (x : Refusal) → l ≡ Missing x → _≡_ {A = ℕ × ℕ} (p .0, 0 + p .1) (partAt p l)
-view-none-start p l x e = rw (e, zero-add (p .1))
+pub view-none-start : (p : ℕ × ℕ) (s : List ℕ) (l : Located) (x : Refusal) → l ≡ Missing x → startFrom p s 0 ≡ partAt p l
+view-none-start p s l x e = let k : min 0 (length s) ≡ 0 = omega arith in rw (e, k, add-zero)

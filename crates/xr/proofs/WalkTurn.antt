@@ -12,7 +12,7 @@ use Rattle.def_refusals.specs.declared.Refusal.the-variants.{BlockTooLong}
 use Rattle.def_refusals.specs.declared.Answer.{Answer}
 use Rattle.def_refusals.specs.declared.Answer.the-variants.{Done, Refused}
 use Rattle.def_wire.specs.Packet.{lengthAt, placeOf, walkFrom}
-use Rattle.xr.specs.Parts.{Walking, Reach, Walk}
+use Rattle.xr.specs.Walks.{Walking, Reach, Walk}
 use Rattle.xr.proofs.WalkLaws.{walk-end, walk-next, walk-cut, place-next, place-zero, done-eq, no}
 
 module _ (s : List ℕ) (stop : ℕ) where

@@ -3,9 +3,10 @@
 ghost use mathlib.Core.Path.{_≡_};
 ghost use Prim.Native.Nat.{_+_, _*_, _-_, _%_, _≤_, _<_};
 ghost use lib.ListN.{length, getD};
-ghost use Rattle.def_wire.specs.Packet.{leastOf, isBadPadding, isPadded, paddingOf, headerOf, lengthAt, placeOf, walkFrom, countOf, sizeAt, locate};
+ghost use Rattle.def_wire.specs.Packet.{leastOf, isBadPadding, headerOf, lengthAt, walkFrom, countOf, sizeAt, locate, partAt, bytesAt};
 ghost use Rattle.def_wire.specs.Block.{headerData};
-ghost use Rattle.xr.specs.Parts.{Walking, Reach, Walk, parsedOf, isEnd, found, partAt, bytesAt};
+ghost use Rattle.xr.specs.Parsed.{parsedOf};
+ghost use Rattle.xr.specs.Walks.{Walking, Reach, Walk, found};
 use def_refusals::Answer;
 use def_refusals::Refusal;
 use def_wire::Located;
@@ -68,7 +69,14 @@ fn length_at(s: &[u8], at: usize) -> usize
     ensures { λ a. ⌜ a ≤ 262144 ⌝ }
 {
     let i = at + 2;
-    (wide16(utils::pair(s[i], s[i + 1])) + 1) * 4
+    length_of(s[i], s[i + 1])
+}
+
+// The length that a length field's two bytes say (RFC 3611, 2 and 3): the length in 32-bit words less one. The one place that computes it.
+fn length_of(hi: u8, lo: u8) -> usize
+    ensures { λ a. ⌜ (a ≡ (hi * 256 + lo + 1) * 4) × (a ≤ 262144) ⌝ }
+{
+    (wide16(utils::pair(hi, lo)) + 1) * 4
 }
 
 fn wide16(x: u16) -> usize
@@ -212,27 +220,11 @@ pub fn count(r: Reading, s: &[u8]) -> Answer
     }
 }
 
-// Whether blocks can end here.
-fn is_end(s: &[u8], stop: usize) -> bool
-    ensures { λ a. ⌜ a ≡ isEnd (now (s .entry)) stop ⌝ }
-{
-    if s.len() < stop {
-        return false;
-    }
-    if stop % 4 != 0 {
-        return false;
-    }
-    8 <= stop
-}
-
-// Where block k's view lies among the blocks up to an end, or 6 or 9: for a caller that has asked the header where they end, so that what the
-// header refuses comes out at once and is not judged twice. 4 where no block can end there. Port of: XrBlockIter::next.
-pub fn find(r: Reading, s: &[u8], stop: usize, k: usize) -> Located
+// Where block k's view lies among the blocks up to where the header says that they end, or 6 or 9. Port of: XrBlockIter::next.
+fn find(r: Reading, s: &[u8], stop: usize, k: usize) -> Located
+    requires { ⌜ (stop ≤ length (now s)) × (stop % 4 ≡ 0) × (8 ≤ stop) ⌝ }
     ensures { λ a. ⌜ a ≡ found r (now (s .entry)) stop k ⌝ }
 {
-    if !is_end(s, stop) {
-        return Located::Missing(Refusal::WrongLength(stop, s.len()));
-    }
     let w = walk(s, stop, k);
     let n = w.count;
     let place = w.place;
@@ -274,8 +266,8 @@ pub fn view(r: Reading, s: &[u8], k: usize) -> &[u8]
     ensures { λ v. ⌜ v .ptr ≡ partAt (s .entry .ptr) (locate r (now (s .entry)) k) ⌝ }
 {
     match locate(r, s, k) {
-        Located::At(at, n) => &s[at..at + n],
-        Located::Missing(_) => &s[0..0],
+        Located::At(at, n) => utils::part(s, at, n),
+        Located::Missing(_) => utils::part(s, 0, 0),
     }
 }
 
@@ -305,7 +297,7 @@ pub fn type_specific_byte(h: [u8; 4]) -> u8
 }
 
 pub fn block_length(h: [u8; 4]) -> usize
-    ensures { λ a. ⌜ a ≡ (getD h 2 0 * 256 + getD h 3 0 + 1) * 4 ⌝ }
+    ensures { λ a. ⌜ (a ≡ (getD h 2 0 * 256 + getD h 3 0 + 1) * 4) × (a ≤ 262144) ⌝ }
 {
-    (wide16(utils::pair(h[2], h[3])) + 1) * 4
+    length_of(h[2], h[3])
 }

@@ -1,5 +1,6 @@
 -- `xr::locate` meets its contract: the header refuses, or the block is looked for.
 use mathlib.Core.Path.{sym, _∙_}
+use Rattle.xr.proofs.HeaderLaws.{header-fine}
 use Rattle.xr.proofs.WalkLaws.{found-located, located-refused}
 use borrow.Author.Needs.{needs}
 use Rattle.xr.proofs.locate.Statement.{statement}
@@ -12,7 +13,10 @@ enum-known-stop : tie.Need-enum-known-stop
 enum-known-stop c = search needs
 
 find-requires : tie.Need-find-requires
-find-requires c κs = search needs
+find-requires c κs = let h = c .before .before .before in
+    let a = h .before .before .args in
+    let f = header-fine (a .r) (a .s .now) (c .before .stop .given .0 .0) (sym (h .header .ensures) ∙ c .before .stop .given .1) in
+    (f .within, f .whole, f .least)
 
 enum-known-x : tie.Need-enum-known-x
 enum-known-x c = search needs

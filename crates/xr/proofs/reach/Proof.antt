@@ -2,7 +2,7 @@
 use Prim.Native.Nat.{_-_, _≤_}
 use native.Mathlib.Omega.{arith}
 use borrow.Author.Needs.{needs}
-use Rattle.xr.specs.Parts.{Walking}
+use Rattle.xr.specs.Walks.{Walking}
 use Rattle.xr.proofs.WalkTurn.{begun, turned, cut, reached, unreached}
 use Rattle.xr.proofs.reach.Statement.{statement}
 use Rattle.xr.proofs.reach.Tie as tie

@@ -1,7 +1,7 @@
--- `xr::view` meets its contract: the part is within the packet, and begins where the block does.
-use mathlib.Core.Path.{sym, _∙_}
-use native.Mathlib.Omega.{arith}
+-- `xr::view` meets its contract: block k's view, that part of the caller's packet itself.
 use Rattle.xr.proofs.WalkLaws.{located-within, view-bytes, view-start, view-none, view-none-start}
+use native.Mathlib.Omega.{arith}
+use mathlib.Core.Path.{sym, _∙_}
 use borrow.Author.Needs.{needs}
 use Rattle.xr.proofs.view.Statement.{statement}
 use Rattle.xr.proofs.view.Tie as tie
@@ -12,49 +12,31 @@ locate-requires c κs = search needs
 enum-known-at : tie.Need-enum-known-at
 enum-known-at c = search needs
 
-add-result : tie.Need-add-result
-add-result c = let a = c .before in
-    let l = a .before .before in
-    let i = l .before .before .args in
-    omega (arith, located-within (i .r) (i .s .now) (i .k) (a .at .given .0 .0) (a .at .given .0 .1 .0) (sym (l .locate .ensures) ∙ a .at .given .1) .end)
-
-sub-result : tie.Need-sub-result
-sub-result c = search needs
-
-part-result-start : tie.Need-part-result-start
-part-result-start c = search needs
-
-part-result-end : tie.Need-part-result-end
-part-result-end c = let a = c .before in
-    let l = a .before .before in
-    let i = l .before .before .args in
-    omega (arith, located-within (i .r) (i .s .now) (i .k) (a .at .given .0 .0) (a .at .given .0 .1 .0) (sym (l .locate .ensures) ∙ a .at .given .1) .end)
+part-requires : tie.Need-part-requires
+part-requires c κs = search needs
 
 enum-told : tie.Need-enum-told
 enum-told c = search needs
 
-sub-result-2 : tie.Need-sub-result-2
-sub-result-2 c = search needs
-
-part-result-start-2 : tie.Need-part-result-start-2
-part-result-start-2 c = search needs
-
-part-result-end-2 : tie.Need-part-result-end-2
-part-result-end-2 c = search needs
+part-requires-2 : tie.Need-part-requires-2
+part-requires-2 c κs = search needs
 
 returns : tie.Need-returns
 returns c = let a = c .before .before in
     let l = a .before .before in
     let i = l .before .before .args in
     let e = sym (l .locate .ensures) ∙ a .at .given .1 in
-    (view-bytes (i .s .now) (a .at .given .0 .0) (a .at .given .0 .1 .0) _ e, view-start (i .s .ptr) (a .at .given .0 .0) (a .at .given .0 .1 .0) _ e)
+    let w = located-within (i .r) (i .s .now) (i .k) (a .at .given .0 .0) (a .at .given .0 .1 .0) e in
+    (c .part .ensures .0 ∙ view-bytes (i .s .now) (a .at .given .0 .0) (a .at .given .0 .1 .0) _ e,
+    c .part .ensures .1 ∙ view-start (i .s .ptr) (i .s .now) (a .at .given .0 .0) (a .at .given .0 .1 .0) _ e (omega (arith, w .end)))
 
 returns-2 : tie.Need-returns-2
 returns-2 c = let a = c .before in
     let l = a .before .before in
     let i = l .before .before .args in
     let e = sym (l .locate .ensures) ∙ a .enum-told .given .1 in
-    (view-none (i .s .now) _ (a .enum-told .given .0 .0) e, view-none-start (i .s .ptr) _ (a .enum-told .given .0 .0) e)
+    (c .part2 .ensures .0 ∙ view-none (i .s .now) _ (a .enum-told .given .0 .0) e,
+    c .part2 .ensures .1 ∙ view-none-start (i .s .ptr) (i .s .now) _ (a .enum-told .given .0 .0) e)
 
 pub view-spec : {M : Type 1} → statement M
 view-spec =
@@ -62,13 +44,8 @@ view-spec =
     (tie.spec
     locate-requires
     enum-known-at
-    add-result
-    sub-result
-    part-result-start
-    part-result-end
+    part-requires
     enum-told
-    sub-result-2
-    part-result-start-2
-    part-result-end-2
+    part-requires-2
     returns
     returns-2)

@@ -4,7 +4,7 @@ use mathlib.Core.Path.{_≡_}
 use native.Mathlib.Omega.{arith}
 use borrow.Author.Needs.{needs}
 use Rattle.def_wire.specs.Packet.{lengthAt}
-use Rattle.xr.specs.Parts.{Walking}
+use Rattle.xr.specs.Walks.{Walking}
 use Rattle.xr.proofs.WalkTurn.{turned, cut, ended}
 use Rattle.xr.proofs.walk_on.Statement.{statement}
 use Rattle.xr.proofs.walk_on.Tie as tie

@@ -1,6 +1,6 @@
 -- `xr::Xr::parse` meets its contract.
 use mathlib.Core.Path.{sym, _∙_}
-use Rattle.xr.specs.Parts.{parsedOf}
+use Rattle.xr.specs.Parsed.{parsedOf}
 use borrow.Author.Needs.{needs}
 use Rattle.xr.proofs.Xr.parse.Statement.{statement}
 use Rattle.xr.proofs.Xr.parse.Tie as tie
