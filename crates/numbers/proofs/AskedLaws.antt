@@ -1,9 +1,9 @@
 -- What a reading is asked: a block's numbers and words from the bytes of its words, and each way in which they are refused.
-use Prim.Native.Nat.{ℕ, _+_, _-_, _≤_}
+use Prim.Native.Nat.{ℕ, _-_, _≤_}
 use mathlib.Core.Path.{_≡_, refl, ap, _∙_}
 use mathlib.Core.List.{List}
 use native.Mathlib.Omega.{arith}
-use lib.ListN.{take, drop, length-take}
+use lib.ListN.{length, take, drop, length-take, length-drop}
 use lib.Seq.{take-all}
 use Rattle.def_refusals.specs.declared.Refusal.{Refusal}
 use Rattle.def_refusals.specs.declared.Checked.the-variants.{Fine, Unfit}
@@ -13,7 +13,10 @@ use Rattle.def_wire.specs.declared.Reading.{Reading}
 use Rattle.def_wire.specs.declared.Reading.the-variants.{Standard, Crate}
 use Rattle.def_wire.specs.declared.Fields.{Fields}
 use Rattle.def_wire.specs.declared.Located.the-variants.{At, Missing}
-use Rattle.def_wire.specs.Packet.{locate}
+use Rattle.def_wire.specs.declared.Rle.{Rle}
+use Rattle.def_wire.specs.declared.Ranged.the-variants.{Chunks}
+use Rattle.def_wire.specs.declared.Kind.the-variants.{Spans}
+use Rattle.def_wire.specs.Packet.{locate, part}
 use Rattle.def_wire.specs.Bytes.{words16}
 use Rattle.def_wire.specs.Block.{checkOf, blockLength, fieldsAt}
 use Rattle.def_standard.specs.Range.{rangeOf}
@@ -29,20 +32,21 @@ short : (n m : ℕ) (l : List ℕ) → m ≤ n → take n (take m l) ≡ take m 
 short n m l h = take-all n (take m l) (rw (length-take m l) (omega arith))
 
 -- the words' bytes in each reading
-pub bytes-standard : (r : Reading) (v : List ℕ) → r ≡ Standard → drop 12 v ≡ wordBytes r v
-bytes-standard r v e = rw e
+pub bytes-standard : (r : Reading) (v : List ℕ) → r ≡ Standard → part v 12 (length v) ≡ wordBytes r v
+bytes-standard r v e =
+    rw e (take-all (length v) (drop 12 v) (let h : length (drop 12 v) ≤ length v = omega (arith, length-drop 12 v) in h))
 
-pub bytes-crate : (r : Reading) (v : List ℕ) (n l : ℕ) (b : List ℕ) → r ≡ Crate → n ≡ l - 14 → l ≡ blockLength v → b ≡ drop 12 v → take n b ≡ wordBytes r v
-bytes-crate r v n l b e k q d = rw (e, k, q, d)
+pub bytes-crate : (r : Reading) (v : List ℕ) (n l : ℕ) → r ≡ Crate → n ≡ l - 14 → l ≡ blockLength v → part v 12 n ≡ wordBytes r v
+bytes-crate r v n l e k q = rw (e, k, q)
 
 -- a listing call's contract, of what is asked said otherwise
 pub listed-as : {whole asked : Or (List ℕ)} {out out′ : List ℕ} {a : Answer} → whole ≡ asked → Listed whole out a out′ → Listed asked out a out′
 listed-as e l = rw (← e) l
 
-module _ (r : Reading) (t : ℕ) (v : List ℕ) where
+module _ (r : Reading) (a : Rle) (v : List ℕ) where
   -- from the fields and the words' bytes that were read
-  module _ (e : checkOf r t v ≡ Fine) (f : Fields) (b : List ℕ) (read : f ≡ fieldsAt v) (bytes : b ≡ wordBytes r v) where
-    pub numbers-standard : r ≡ Standard → shown (numbersOf (rangeOf f) (words16 b)) ≡ numbersShown r t v
+  module _ (e : checkOf r (Spans (Chunks a)) v ≡ Fine) (f : Fields) (b : List ℕ) (read : f ≡ fieldsAt v) (bytes : b ≡ wordBytes r v) where
+    pub numbers-standard : r ≡ Standard → shown (numbersOf (rangeOf f) (words16 b)) ≡ numbersShown r a v
     unfolding numbersShown
     numbers-standard q = rw (read, bytes, e, q)
 
@@ -52,7 +56,7 @@ module _ (r : Reading) (t : ℕ) (v : List ℕ) where
         ap (take longest) (bytes ∙ ap (λ (x : Reading). wordBytes x v) q) ∙ short longest (blockLength v - 14) (drop 12 v) (omega arith)
 
     pub numbers-crate : r ≡ Crate → blockLength v ≤ 262144
-        → shown (crateNumbersFrom (f .end) (f .thinning) (f .begin) (words16 (take longest b))) ≡ numbersShown r t v
+        → shown (crateNumbersFrom (f .end) (f .thinning) (f .begin) (words16 (take longest b))) ≡ numbersShown r a v
     unfolding numbersShown
     numbers-crate q h =
         ap (λ (l : List ℕ). shown (crateNumbersFrom (f .end) (f .thinning) (f .begin) (words16 l))) (crate-words q h) ∙ (rw (read, e, q))
@@ -61,34 +65,34 @@ module _ (r : Reading) (t : ℕ) (v : List ℕ) where
   words-read Standard = refl
   words-read Crate = refl
 
-  pub words-fine : (b : List ℕ) → b ≡ wordBytes r v → checkOf r t v ≡ Fine → shown (words16 b) ≡ wordsShown r t v
+  pub words-fine : (b : List ℕ) → b ≡ wordBytes r v → checkOf r (Spans (Chunks a)) v ≡ Fine → shown (words16 b) ≡ wordsShown r a v
   unfolding wordsShown
   words-fine b bytes e = rw (bytes, e, words-read r)
 
-  module _ (x : Refusal) (e : checkOf r t v ≡ Unfit x) where
-    pub numbers-unfit : numbersShown r t v ≡ refused x
+  module _ (x : Refusal) (e : checkOf r (Spans (Chunks a)) v ≡ Unfit x) where
+    pub numbers-unfit : numbersShown r a v ≡ refused x
     unfolding numbersShown
     numbers-unfit = rw e
 
-    pub words-unfit : wordsShown r t v ≡ refused x
+    pub words-unfit : wordsShown r a v ≡ refused x
     unfolding wordsShown
     words-unfit = rw e
 
-module _ (r : Reading) (s : List ℕ) (k t : ℕ) where
+module _ (r : Reading) (s : List ℕ) (k : ℕ) (a : Rle) where
   module _ (at n : ℕ) (e : locate r s k ≡ At at n) where
-    pub numbers-asked : numbersAsked r s k t ≡ numbersShown r t (take (at + n - at) (drop at s))
+    pub numbers-asked : numbersShown r a (part s at n) ≡ numbersAsked r s k a
     unfolding numbersAsked
-    numbers-asked = let q : at + n - at ≡ n = omega arith in rw (e, q)
+    numbers-asked = rw e
 
-    pub words-asked : wordsAsked r s k t ≡ wordsShown r t (take (at + n - at) (drop at s))
+    pub words-asked : wordsShown r a (part s at n) ≡ wordsAsked r s k a
     unfolding wordsAsked
-    words-asked = let q : at + n - at ≡ n = omega arith in rw (e, q)
+    words-asked = rw e
 
   module _ (x : Refusal) (e : locate r s k ≡ Missing x) where
-    pub numbers-missing : numbersAsked r s k t ≡ refused x
+    pub numbers-missing : numbersAsked r s k a ≡ refused x
     unfolding numbersAsked
     numbers-missing = rw e
 
-    pub words-missing : wordsAsked r s k t ≡ refused x
+    pub words-missing : wordsAsked r s k a ≡ refused x
     unfolding wordsAsked
     words-missing = rw e

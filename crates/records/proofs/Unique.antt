@@ -1,126 +1,49 @@
--- No second answer satisfies a public function's contract. Each statement is about the contract in src/ itself, as rattle reads it. Assumes nothing.
-use mathlib.Core.Path.{_≡_, sym, _∙_}
+-- No second answer satisfies a public function's contract. Each statement is about the contract in src/ itself, as rattle reads it. Written by
+-- tools/unique. Assumes nothing.
+use mathlib.Core.Path.{sym, _∙_}
 use contract.Lifetimes.{Lfts}
-use borrow.Fn.World.{ArgsD, ResD}
-use borrow.Fn.Kinds.{endedOf}
-use denote.Triple.Clauses.{AtExit}
-use Rattle.records.proofs.LossRle.read as loss-read
-use Rattle.records.proofs.LossRle.read.Reads as loss-read-reads
-use Rattle.records.proofs.LossRle.read.Kinds as loss-read-kinds
-use Rattle.records.proofs.LossRle.numbers as loss-numbers
-use Rattle.records.proofs.LossRle.numbers.Reads as loss-numbers-reads
-use Rattle.records.proofs.LossRle.numbers.Kinds as loss-numbers-kinds
-use Rattle.records.proofs.LossRle.words as loss-words
-use Rattle.records.proofs.LossRle.words.Reads as loss-words-reads
-use Rattle.records.proofs.LossRle.words.Kinds as loss-words-kinds
-use Rattle.records.proofs.DuplicateRle.read as duplicate-read
-use Rattle.records.proofs.DuplicateRle.read.Reads as duplicate-read-reads
-use Rattle.records.proofs.DuplicateRle.read.Kinds as duplicate-read-kinds
-use Rattle.records.proofs.DuplicateRle.numbers as duplicate-numbers
-use Rattle.records.proofs.DuplicateRle.numbers.Reads as duplicate-numbers-reads
-use Rattle.records.proofs.DuplicateRle.numbers.Kinds as duplicate-numbers-kinds
-use Rattle.records.proofs.DuplicateRle.words as duplicate-words
-use Rattle.records.proofs.DuplicateRle.words.Reads as duplicate-words-reads
-use Rattle.records.proofs.DuplicateRle.words.Kinds as duplicate-words-kinds
-use Rattle.records.proofs.PacketReceiptTimes.read as receipt-read
-use Rattle.records.proofs.PacketReceiptTimes.read.Reads as receipt-read-reads
-use Rattle.records.proofs.PacketReceiptTimes.read.Kinds as receipt-read-kinds
-use Rattle.records.proofs.PacketReceiptTimes.pairs as receipt-pairs
-use Rattle.records.proofs.PacketReceiptTimes.pairs.Reads as receipt-pairs-reads
-use Rattle.records.proofs.PacketReceiptTimes.pairs.Kinds as receipt-pairs-kinds
-use Rattle.records.proofs.ReceiverReferenceTime.read as clock-read
-use Rattle.records.proofs.ReceiverReferenceTime.read.Reads as clock-read-reads
-use Rattle.records.proofs.ReceiverReferenceTime.read.Kinds as clock-read-kinds
-use Rattle.records.proofs.DelaySinceLastReceiverReport.entries as echoes-entries
-use Rattle.records.proofs.DelaySinceLastReceiverReport.entries.Reads as echoes-entries-reads
-use Rattle.records.proofs.DelaySinceLastReceiverReport.entries.Kinds as echoes-entries-kinds
-use Rattle.records.proofs.LossRle.new as loss-new
-use Rattle.records.proofs.LossRle.new.Reads as loss-new-reads
-use Rattle.records.proofs.LossRle.new.Kinds as loss-new-kinds
-use Rattle.records.proofs.DuplicateRle.new as duplicate-new
-use Rattle.records.proofs.DuplicateRle.new.Reads as duplicate-new-reads
-use Rattle.records.proofs.DuplicateRle.new.Kinds as duplicate-new-kinds
-use Rattle.records.proofs.PacketReceiptTimes.new as receipt-new
-use Rattle.records.proofs.PacketReceiptTimes.new.Reads as receipt-new-reads
-use Rattle.records.proofs.PacketReceiptTimes.new.Kinds as receipt-new-kinds
-use Rattle.records.proofs.ReceiverReferenceTime.new as clock-new
-use Rattle.records.proofs.ReceiverReferenceTime.new.Reads as clock-new-reads
-use Rattle.records.proofs.ReceiverReferenceTime.new.Kinds as clock-new-kinds
-use Rattle.records.proofs.DelaySinceLastReceiverReport.new as echoes-new
-use Rattle.records.proofs.DelaySinceLastReceiverReport.new.Reads as echoes-new-reads
-use Rattle.records.proofs.DelaySinceLastReceiverReport.new.Kinds as echoes-new-kinds
+use Rattle.laws.proofs.Determined.{Fixes}
+use Rattle.records.proofs.LossRle.new.Reads as LossRle-new
+use Rattle.records.proofs.DuplicateRle.new.Reads as DuplicateRle-new
+use Rattle.records.proofs.PacketReceiptTimes.new.Reads as PacketReceiptTimes-new
+use Rattle.records.proofs.ReceiverReferenceTime.new.Reads as ReceiverReferenceTime-new
+use Rattle.records.proofs.DelaySinceLastReceiverReport.new.Reads as DelaySinceLastReceiverReport-new
+use Rattle.records.proofs.rle_type.Reads as rle-type
+use Rattle.records.proofs.ranged_type.Reads as ranged-type
+use Rattle.records.proofs.kind_type.Reads as kind-type
+use Rattle.records.proofs.rle_of.Reads as rle-of
+use Rattle.records.proofs.ranged_of.Reads as ranged-of
+use Rattle.records.proofs.kind_of.Reads as kind-of
 
-pub loss-read-unique : (κs : Lfts 1) (a : ArgsD loss-read.signature κs) (r₁ r₂ : ResD loss-read.signature κs)
-    (s₁ s₂ : AtExit (endedOf 1 loss-read-kinds.ps loss-read-kinds.r) κs)
-    → loss-read-reads.Post κs a r₁ s₁ → loss-read-reads.Post κs a r₂ s₂ → r₁ ≡ r₂
-loss-read-unique κs a r₁ r₂ s₁ s₂ p q = p ∙ sym q
+pub LossRle-new-unique-fields : (κs : Lfts 0) → Fixes (LossRle-new.Post κs) (λ r s. r .fields)
+LossRle-new-unique-fields κs a r₁ r₂ s₁ s₂ p q = p ∙ sym q
 
-pub loss-numbers-unique : (κs : Lfts 2) (a : ArgsD loss-numbers.signature κs) (r₁ r₂ : ResD loss-numbers.signature κs)
-    (s₁ s₂ : AtExit (endedOf 2 loss-numbers-kinds.ps loss-numbers-kinds.r) κs)
-    → loss-numbers-reads.Post κs a r₁ s₁ → loss-numbers-reads.Post κs a r₂ s₂ → (r₁ ≡ r₂) × (s₁ .1 .1 .1 .0 .now ≡ s₂ .1 .1 .1 .0 .now)
-loss-numbers-unique κs a r₁ r₂ s₁ s₂ p q = (p .answer ∙ sym (q .answer), p .filled ∙ sym (q .filled))
+pub DuplicateRle-new-unique-fields : (κs : Lfts 0) → Fixes (DuplicateRle-new.Post κs) (λ r s. r .fields)
+DuplicateRle-new-unique-fields κs a r₁ r₂ s₁ s₂ p q = p ∙ sym q
 
-pub loss-words-unique : (κs : Lfts 2) (a : ArgsD loss-words.signature κs) (r₁ r₂ : ResD loss-words.signature κs)
-    (s₁ s₂ : AtExit (endedOf 2 loss-words-kinds.ps loss-words-kinds.r) κs)
-    → loss-words-reads.Post κs a r₁ s₁ → loss-words-reads.Post κs a r₂ s₂ → (r₁ ≡ r₂) × (s₁ .1 .1 .1 .0 .now ≡ s₂ .1 .1 .1 .0 .now)
-loss-words-unique κs a r₁ r₂ s₁ s₂ p q = (p .answer ∙ sym (q .answer), p .filled ∙ sym (q .filled))
+pub PacketReceiptTimes-new-unique-fields : (κs : Lfts 0) → Fixes (PacketReceiptTimes-new.Post κs) (λ r s. r .fields)
+PacketReceiptTimes-new-unique-fields κs a r₁ r₂ s₁ s₂ p q = p ∙ sym q
 
-pub duplicate-read-unique : (κs : Lfts 1) (a : ArgsD duplicate-read.signature κs) (r₁ r₂ : ResD duplicate-read.signature κs)
-    (s₁ s₂ : AtExit (endedOf 1 duplicate-read-kinds.ps duplicate-read-kinds.r) κs)
-    → duplicate-read-reads.Post κs a r₁ s₁ → duplicate-read-reads.Post κs a r₂ s₂ → r₁ ≡ r₂
-duplicate-read-unique κs a r₁ r₂ s₁ s₂ p q = p ∙ sym q
+pub ReceiverReferenceTime-new-unique-time : (κs : Lfts 0) → Fixes (ReceiverReferenceTime-new.Post κs) (λ r s. r .time)
+ReceiverReferenceTime-new-unique-time κs a r₁ r₂ s₁ s₂ p q = p ∙ sym q
 
-pub duplicate-numbers-unique : (κs : Lfts 2) (a : ArgsD duplicate-numbers.signature κs) (r₁ r₂ : ResD duplicate-numbers.signature κs)
-    (s₁ s₂ : AtExit (endedOf 2 duplicate-numbers-kinds.ps duplicate-numbers-kinds.r) κs)
-    → duplicate-numbers-reads.Post κs a r₁ s₁ → duplicate-numbers-reads.Post κs a r₂ s₂ → (r₁ ≡ r₂) × (s₁ .1 .1 .1 .0 .now ≡ s₂ .1 .1 .1 .0 .now)
-duplicate-numbers-unique κs a r₁ r₂ s₁ s₂ p q = (p .answer ∙ sym (q .answer), p .filled ∙ sym (q .filled))
+pub DelaySinceLastReceiverReport-new-unique-entries : (κs : Lfts 0) → Fixes (DelaySinceLastReceiverReport-new.Post κs) (λ r s. r .entries)
+DelaySinceLastReceiverReport-new-unique-entries κs a r₁ r₂ s₁ s₂ p q = p ∙ sym q
 
-pub duplicate-words-unique : (κs : Lfts 2) (a : ArgsD duplicate-words.signature κs) (r₁ r₂ : ResD duplicate-words.signature κs)
-    (s₁ s₂ : AtExit (endedOf 2 duplicate-words-kinds.ps duplicate-words-kinds.r) κs)
-    → duplicate-words-reads.Post κs a r₁ s₁ → duplicate-words-reads.Post κs a r₂ s₂ → (r₁ ≡ r₂) × (s₁ .1 .1 .1 .0 .now ≡ s₂ .1 .1 .1 .0 .now)
-duplicate-words-unique κs a r₁ r₂ s₁ s₂ p q = (p .answer ∙ sym (q .answer), p .filled ∙ sym (q .filled))
+pub rle-type-unique : (κs : Lfts 0) → Fixes (rle-type.Post κs) (λ r s. r)
+rle-type-unique κs a r₁ r₂ s₁ s₂ p q = p ∙ sym q
 
-pub receipt-read-unique : (κs : Lfts 1) (a : ArgsD receipt-read.signature κs) (r₁ r₂ : ResD receipt-read.signature κs)
-    (s₁ s₂ : AtExit (endedOf 1 receipt-read-kinds.ps receipt-read-kinds.r) κs)
-    → receipt-read-reads.Post κs a r₁ s₁ → receipt-read-reads.Post κs a r₂ s₂ → r₁ ≡ r₂
-receipt-read-unique κs a r₁ r₂ s₁ s₂ p q = p ∙ sym q
+pub ranged-type-unique : (κs : Lfts 0) → Fixes (ranged-type.Post κs) (λ r s. r)
+ranged-type-unique κs a r₁ r₂ s₁ s₂ p q = p ∙ sym q
 
-pub receipt-pairs-unique : (κs : Lfts 3) (a : ArgsD receipt-pairs.signature κs) (r₁ r₂ : ResD receipt-pairs.signature κs)
-    (s₁ s₂ : AtExit (endedOf 3 receipt-pairs-kinds.ps receipt-pairs-kinds.r) κs)
-    → receipt-pairs-reads.Post κs a r₁ s₁ → receipt-pairs-reads.Post κs a r₂ s₂ → (r₁ ≡ r₂) × (s₁ .1 .1 .1 .0 .now ≡ s₂ .1 .1 .1 .0 .now) × (s₁ .1 .1 .1 .1 .0 .now ≡ s₂ .1 .1 .1 .1 .0 .now)
-receipt-pairs-unique κs a r₁ r₂ s₁ s₂ p q = (p .answer ∙ sym (q .answer), p .numbers ∙ sym (q .numbers), p .times ∙ sym (q .times))
+pub kind-type-unique : (κs : Lfts 0) → Fixes (kind-type.Post κs) (λ r s. r)
+kind-type-unique κs a r₁ r₂ s₁ s₂ p q = p ∙ sym q
 
-pub clock-read-unique : (κs : Lfts 1) (a : ArgsD clock-read.signature κs) (r₁ r₂ : ResD clock-read.signature κs)
-    (s₁ s₂ : AtExit (endedOf 1 clock-read-kinds.ps clock-read-kinds.r) κs)
-    → clock-read-reads.Post κs a r₁ s₁ → clock-read-reads.Post κs a r₂ s₂ → r₁ ≡ r₂
-clock-read-unique κs a r₁ r₂ s₁ s₂ p q = p ∙ sym q
+pub rle-of-unique : (κs : Lfts 0) → Fixes (rle-of.Post κs) (λ r s. r)
+rle-of-unique κs a r₁ r₂ s₁ s₂ p q = p ∙ sym q
 
-pub echoes-entries-unique : (κs : Lfts 4) (a : ArgsD echoes-entries.signature κs) (r₁ r₂ : ResD echoes-entries.signature κs)
-    (s₁ s₂ : AtExit (endedOf 4 echoes-entries-kinds.ps echoes-entries-kinds.r) κs)
-    → echoes-entries-reads.Post κs a r₁ s₁ → echoes-entries-reads.Post κs a r₂ s₂ → (r₁ ≡ r₂) × (s₁ .1 .1 .1 .0 .now ≡ s₂ .1 .1 .1 .0 .now) × (s₁ .1 .1 .1 .1 .0 .now ≡ s₂ .1 .1 .1 .1 .0 .now) × (s₁ .1 .1 .1 .1 .1 .0 .now ≡ s₂ .1 .1 .1 .1 .1 .0 .now)
-echoes-entries-unique κs a r₁ r₂ s₁ s₂ p q = (p .answer ∙ sym (q .answer), p .ssrcs ∙ sym (q .ssrcs), p .lasts ∙ sym (q .lasts), p .delays ∙ sym (q .delays))
+pub ranged-of-unique : (κs : Lfts 0) → Fixes (ranged-of.Post κs) (λ r s. r)
+ranged-of-unique κs a r₁ r₂ s₁ s₂ p q = p ∙ sym q
 
-pub loss-new-unique : (κs : Lfts 0) (a : ArgsD loss-new.signature κs) (r₁ r₂ : ResD loss-new.signature κs)
-    (s₁ s₂ : AtExit (endedOf 0 loss-new-kinds.ps loss-new-kinds.r) κs)
-    → loss-new-reads.Post κs a r₁ s₁ → loss-new-reads.Post κs a r₂ s₂ → r₁ .fields ≡ r₂ .fields
-loss-new-unique κs a r₁ r₂ s₁ s₂ p q = p ∙ sym q
-
-pub duplicate-new-unique : (κs : Lfts 0) (a : ArgsD duplicate-new.signature κs) (r₁ r₂ : ResD duplicate-new.signature κs)
-    (s₁ s₂ : AtExit (endedOf 0 duplicate-new-kinds.ps duplicate-new-kinds.r) κs)
-    → duplicate-new-reads.Post κs a r₁ s₁ → duplicate-new-reads.Post κs a r₂ s₂ → r₁ .fields ≡ r₂ .fields
-duplicate-new-unique κs a r₁ r₂ s₁ s₂ p q = p ∙ sym q
-
-pub receipt-new-unique : (κs : Lfts 0) (a : ArgsD receipt-new.signature κs) (r₁ r₂ : ResD receipt-new.signature κs)
-    (s₁ s₂ : AtExit (endedOf 0 receipt-new-kinds.ps receipt-new-kinds.r) κs)
-    → receipt-new-reads.Post κs a r₁ s₁ → receipt-new-reads.Post κs a r₂ s₂ → r₁ .fields ≡ r₂ .fields
-receipt-new-unique κs a r₁ r₂ s₁ s₂ p q = p ∙ sym q
-
-pub clock-new-unique : (κs : Lfts 0) (a : ArgsD clock-new.signature κs) (r₁ r₂ : ResD clock-new.signature κs)
-    (s₁ s₂ : AtExit (endedOf 0 clock-new-kinds.ps clock-new-kinds.r) κs)
-    → clock-new-reads.Post κs a r₁ s₁ → clock-new-reads.Post κs a r₂ s₂ → r₁ .time ≡ r₂ .time
-clock-new-unique κs a r₁ r₂ s₁ s₂ p q = p ∙ sym q
-
-pub echoes-new-unique : (κs : Lfts 0) (a : ArgsD echoes-new.signature κs) (r₁ r₂ : ResD echoes-new.signature κs)
-    (s₁ s₂ : AtExit (endedOf 0 echoes-new-kinds.ps echoes-new-kinds.r) κs)
-    → echoes-new-reads.Post κs a r₁ s₁ → echoes-new-reads.Post κs a r₂ s₂ → r₁ .entries ≡ r₂ .entries
-echoes-new-unique κs a r₁ r₂ s₁ s₂ p q = p ∙ sym q
+pub kind-of-unique : (κs : Lfts 0) → Fixes (kind-of.Post κs) (λ r s. r)
+kind-of-unique κs a r₁ r₂ s₁ s₂ p q = p ∙ sym q

@@ -1,28 +1,20 @@
-// The block records, each with its type number as a constant of its type: what a caller asks a packet for.
-// Port of: loss_rle.rs, duplicate_rle.rs, packet_receipt_time.rs, receiver_reference_time.rs, dlrr.rs;
-// differs: a block is asked by its index, in either reading, and a refusal says why.
+// The block records, each with its type number as a constant of its type and a constructor beside it, and the kind of a type number: what every
+// crate that speaks of a block's type takes it from. Port of: the BLOCK_TYPE constants of loss_rle.rs, duplicate_rle.rs,
+// packet_receipt_time.rs, receiver_reference_time.rs, dlrr.rs; differs: the trait with a constant is a constant of each record.
 ghost use mathlib.Core.Path.{_≡_};
-ghost use Rattle.def_wire.specs.Block.{lossType, duplicateType, receiptType};
-ghost use Rattle.def_refusals.specs.Answers.{Listed};
-ghost use Rattle.def_questions.specs.Questions.{ListedPairs, ListedEntries};
-ghost use Rattle.def_questions.specs.Packets.{fieldsAsked, timeAsked, numbersAsked, wordsAsked, pairsAsked, entriesAsked};
-ghost use Rattle.records.specs.Records.{lossOf, duplicateOf, receiptOf, clockOf};
-use def_refusals::Answer;
-use def_refusals::Refusal;
+ghost use Rattle.def_wire.specs.Block.{rleType, rangedType, kindType, rleOf, rangedOf, kindOf};
 use def_wire::Fields;
-use def_wire::FieldsOr;
+use def_wire::Kind;
+use def_wire::KindOr;
 use def_wire::LongTime;
-use def_wire::Reading;
-use def_wire::TimeOr;
+use def_wire::Ranged;
+use def_wire::RangedOr;
+use def_wire::Rle;
+use def_wire::RleOr;
 
 // Which packets were heard (RFC 3611, 4.1).
 pub struct LossRle {
     pub fields: Fields,
-}
-
-pub enum LossOr {
-    Loss(LossRle),
-    NoLoss(Refusal),
 }
 
 impl LossRle {
@@ -33,40 +25,11 @@ impl LossRle {
     {
         LossRle { fields }
     }
-
-    // Block k's fields: 1 to 6, 9, 10, 7.
-    pub fn read(r: Reading, s: &[u8], k: usize) -> LossOr
-        ensures { λ a. ⌜ a ≡ lossOf (fieldsAsked r (now (s .entry)) k lossType) ⌝ }
-    {
-        match block::fields_in(r, s, k, LossRle::BLOCK_TYPE) {
-            FieldsOr::Shown(f) => LossOr::Loss(LossRle::new(f)),
-            FieldsOr::NoneOf(x) => LossOr::NoLoss(x),
-        }
-    }
-
-    // Block k's numbers: 1 to 6, 9, 10, 7, 11. Port of: loss_rle.rs sequence_iter.
-    pub fn numbers(r: Reading, s: &[u8], k: usize, out: &mut [u16]) -> Answer
-        ensures { λ a. ⌜ Listed (numbersAsked r (now (s .entry)) k lossType) (now (out .entry)) a (now (out .exit)) ⌝ }
-    {
-        numbers::numbers_in(r, s, k, LossRle::BLOCK_TYPE, out)
-    }
-
-    // Block k's chunk words: 1 to 6, 9, 10, 7, 11. Port of: loss_rle.rs chunk_iter.
-    pub fn words(r: Reading, s: &[u8], k: usize, out: &mut [u16]) -> Answer
-        ensures { λ a. ⌜ Listed (wordsAsked r (now (s .entry)) k lossType) (now (out .entry)) a (now (out .exit)) ⌝ }
-    {
-        numbers::words_in(r, s, k, LossRle::BLOCK_TYPE, out)
-    }
 }
 
 // Which packets came once and not more often (RFC 3611, 4.2).
 pub struct DuplicateRle {
     pub fields: Fields,
-}
-
-pub enum DuplicateOr {
-    Duplicate(DuplicateRle),
-    NoDuplicate(Refusal),
 }
 
 impl DuplicateRle {
@@ -77,40 +40,11 @@ impl DuplicateRle {
     {
         DuplicateRle { fields }
     }
-
-    // Block k's fields: 1 to 6, 9, 10, 7.
-    pub fn read(r: Reading, s: &[u8], k: usize) -> DuplicateOr
-        ensures { λ a. ⌜ a ≡ duplicateOf (fieldsAsked r (now (s .entry)) k duplicateType) ⌝ }
-    {
-        match block::fields_in(r, s, k, DuplicateRle::BLOCK_TYPE) {
-            FieldsOr::Shown(f) => DuplicateOr::Duplicate(DuplicateRle::new(f)),
-            FieldsOr::NoneOf(x) => DuplicateOr::NoDuplicate(x),
-        }
-    }
-
-    // Block k's numbers: 1 to 6, 9, 10, 7, 11. Port of: duplicate_rle.rs sequence_iter.
-    pub fn numbers(r: Reading, s: &[u8], k: usize, out: &mut [u16]) -> Answer
-        ensures { λ a. ⌜ Listed (numbersAsked r (now (s .entry)) k duplicateType) (now (out .entry)) a (now (out .exit)) ⌝ }
-    {
-        numbers::numbers_in(r, s, k, DuplicateRle::BLOCK_TYPE, out)
-    }
-
-    // Block k's chunk words: 1 to 6, 9, 10, 7, 11. Port of: duplicate_rle.rs chunk_iter.
-    pub fn words(r: Reading, s: &[u8], k: usize, out: &mut [u16]) -> Answer
-        ensures { λ a. ⌜ Listed (wordsAsked r (now (s .entry)) k duplicateType) (now (out .entry)) a (now (out .exit)) ⌝ }
-    {
-        numbers::words_in(r, s, k, DuplicateRle::BLOCK_TYPE, out)
-    }
 }
 
 // When packets came (RFC 3611, 4.3).
 pub struct PacketReceiptTimes {
     pub fields: Fields,
-}
-
-pub enum ReceiptOr {
-    Receipt(PacketReceiptTimes),
-    NoReceipt(Refusal),
 }
 
 impl PacketReceiptTimes {
@@ -121,33 +55,11 @@ impl PacketReceiptTimes {
     {
         PacketReceiptTimes { fields }
     }
-
-    // Block k's fields: 1 to 6, 9, 10, 7, 8.
-    pub fn read(r: Reading, s: &[u8], k: usize) -> ReceiptOr
-        ensures { λ a. ⌜ a ≡ receiptOf (fieldsAsked r (now (s .entry)) k receiptType) ⌝ }
-    {
-        match block::fields_in(r, s, k, PacketReceiptTimes::BLOCK_TYPE) {
-            FieldsOr::Shown(f) => ReceiptOr::Receipt(PacketReceiptTimes::new(f)),
-            FieldsOr::NoneOf(x) => ReceiptOr::NoReceipt(x),
-        }
-    }
-
-    // Block k's sequence numbers and receipt times: 1 to 6, 9, 10, 7, 11. Port of: packet_receipt_time.rs sequence_iter.
-    pub fn pairs(r: Reading, s: &[u8], k: usize, numbers: &mut [u16], times: &mut [u32]) -> Answer
-        ensures { λ a. ⌜ ListedPairs (pairsAsked r (now (s .entry)) k) (now (numbers .entry)) (now (times .entry)) a (now (numbers .exit)) (now (times .exit)) ⌝ }
-    {
-        packet_receipt_time::pairs_in(r, s, k, numbers, times)
-    }
 }
 
 // The sender's clock (RFC 3611, 4.4).
 pub struct ReceiverReferenceTime {
     pub time: LongTime,
-}
-
-pub enum ClockOr {
-    Clock(ReceiverReferenceTime),
-    NoClock(Refusal),
 }
 
 impl ReceiverReferenceTime {
@@ -157,16 +69,6 @@ impl ReceiverReferenceTime {
         ensures { λ r. ⌜ r .time ≡ time ⌝ }
     {
         ReceiverReferenceTime { time }
-    }
-
-    // Block k's time: 1 to 6, 9, 10, 7.
-    pub fn read(r: Reading, s: &[u8], k: usize) -> ClockOr
-        ensures { λ a. ⌜ a ≡ clockOf (timeAsked r (now (s .entry)) k) ⌝ }
-    {
-        match block::time_in(r, s, k) {
-            TimeOr::Time(t) => ClockOr::Clock(ReceiverReferenceTime::new(t)),
-            TimeOr::NoTime(x) => ClockOr::NoClock(x),
-        }
     }
 }
 
@@ -183,18 +85,77 @@ impl DelaySinceLastReceiverReport {
     {
         DelaySinceLastReceiverReport { entries }
     }
+}
 
-    // Block k's echoes: 1 to 6, 9, 10, 7, 11. Port of: dlrr.rs block_iter.
-    pub fn entries(
-        r: Reading,
-        s: &[u8],
-        k: usize,
-        ssrcs: &mut [u32],
-        lasts: &mut [u32],
-        delays: &mut [u32],
-    ) -> Answer
-        ensures { λ a. ⌜ ListedEntries (entriesAsked r (now (s .entry)) k) (now (ssrcs .entry)) (now (lasts .entry)) (now (delays .entry)) a (now (ssrcs .exit)) (now (lasts .exit)) (now (delays .exit)) ⌝ }
-    {
-        dlrr::entries_in(r, s, k, ssrcs, lasts, delays)
+// The type number of a kind.
+pub fn rle_type(a: Rle) -> u8
+    ensures { λ r. ⌜ r ≡ rleType a ⌝ }
+{
+    match a {
+        Rle::Loss => LossRle::BLOCK_TYPE,
+        Rle::Duplicate => DuplicateRle::BLOCK_TYPE,
+    }
+}
+
+pub fn ranged_type(g: Ranged) -> u8
+    ensures { λ r. ⌜ r ≡ rangedType g ⌝ }
+{
+    match g {
+        Ranged::Chunks(a) => rle_type(a),
+        Ranged::Times => PacketReceiptTimes::BLOCK_TYPE,
+    }
+}
+
+pub fn kind_type(k: Kind) -> u8
+    ensures { λ r. ⌜ r ≡ kindType k ⌝ }
+{
+    match k {
+        Kind::Spans(g) => ranged_type(g),
+        Kind::Clock => ReceiverReferenceTime::BLOCK_TYPE,
+        Kind::Echoes => DelaySinceLastReceiverReport::BLOCK_TYPE,
+    }
+}
+
+// The kind of a type number, where it has one.
+pub fn rle_of(t: u8) -> RleOr
+    ensures { λ r. ⌜ r ≡ rleOf t ⌝ }
+{
+    if t == LossRle::BLOCK_TYPE {
+        return RleOr::AnRle(Rle::Loss);
+    }
+    if t == DuplicateRle::BLOCK_TYPE {
+        return RleOr::AnRle(Rle::Duplicate);
+    }
+    RleOr::NoRle
+}
+
+pub fn ranged_of(t: u8) -> RangedOr
+    ensures { λ r. ⌜ r ≡ rangedOf t ⌝ }
+{
+    match rle_of(t) {
+        RleOr::AnRle(a) => RangedOr::ARange(Ranged::Chunks(a)),
+        RleOr::NoRle => {
+            if t == PacketReceiptTimes::BLOCK_TYPE {
+                return RangedOr::ARange(Ranged::Times);
+            }
+            RangedOr::NoRange
+        }
+    }
+}
+
+pub fn kind_of(t: u8) -> KindOr
+    ensures { λ r. ⌜ r ≡ kindOf t ⌝ }
+{
+    match ranged_of(t) {
+        RangedOr::ARange(g) => KindOr::AKind(Kind::Spans(g)),
+        RangedOr::NoRange => {
+            if t == ReceiverReferenceTime::BLOCK_TYPE {
+                return KindOr::AKind(Kind::Clock);
+            }
+            if t == DelaySinceLastReceiverReport::BLOCK_TYPE {
+                return KindOr::AKind(Kind::Echoes);
+            }
+            KindOr::NoKind
+        }
     }
 }

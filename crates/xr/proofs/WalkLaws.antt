@@ -13,11 +13,12 @@ use Rattle.def_refusals.specs.declared.Refusal.{Refusal}
 use Rattle.def_refusals.specs.declared.Refusal.the-variants.{BlockTooLong, NoBlock}
 use Rattle.def_refusals.specs.declared.Answer.{Answer}
 use Rattle.def_refusals.specs.declared.Answer.the-variants.{Done, Refused}
+use Rattle.def_refusals.specs.Answers.{shown, refused}
 use Rattle.def_wire.specs.declared.Reading.{Reading}
 use Rattle.def_wire.specs.declared.Reading.the-variants.{Standard, Crate}
 use Rattle.def_wire.specs.declared.Located.{Located}
 use Rattle.def_wire.specs.declared.Located.the-variants.{At, Missing}
-use Rattle.def_wire.specs.Packet.{headerOf, lengthAt, placeOf, walkFrom, walkTo, countOf, sizeAt, pickBlock, locate, part, partAt, bytesAt, startFrom}
+use Rattle.def_wire.specs.Packet.{headerOf, lengthAt, placeOf, walkFrom, walkTo, countOf, sizeAt, pickBlock, locate, part, viewOf, partAt, bytesAt, startFrom}
 use Rattle.xr.specs.Walks.{found}
 use Rattle.xr.proofs.HeaderLaws.{header-fine}
 
@@ -173,3 +174,10 @@ view-none s l x e = rw e
 
 pub view-none-start : (p : ℕ × ℕ) (s : List ℕ) (l : Located) (x : Refusal) → l ≡ Missing x → startFrom p s 0 ≡ partAt p l
 view-none-start p s l x e = let k : min 0 (length s) ≡ 0 = omega arith in rw (e, k, add-zero)
+
+-- the view of a block that was located, and of one that was not
+pub view-shown : (r : Reading) (s : List ℕ) (k at n : ℕ) → locate r s k ≡ At at n → viewOf r s k ≡ shown (part s at n)
+view-shown r s k at n e = rw e
+
+pub view-refused : (r : Reading) (s : List ℕ) (k : ℕ) (x : Refusal) → locate r s k ≡ Missing x → viewOf r s k ≡ refused x
+view-refused r s k x e = rw e

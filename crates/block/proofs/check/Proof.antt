@@ -1,28 +1,86 @@
--- `block::check` meets its contract: 10, then 7, of a block's view.
-use Rattle.block.proofs.BlockLaws.{check-other, check-fit}
-use mathlib.Core.Path.{sym, _∙_}
+-- `block::check` meets its contract: 10, then 7, of a block's view, asked as a kind.
+use Rattle.xr.proofs.HeaderBytes.{type-taken, length-taken}
+use Rattle.block.proofs.BlockLaws.{check-other, check-standard, check-crate}
+use Rattle.def_wire.specs.Block.{typeOf, blockLength, kindType, crateRule}
+use lib.ListN.{length}
+use mathlib.Core.Path.{_≡_, sym, ap, _∙_}
+use Prim.Native.Nat.{ℕ}
 use borrow.Author.Needs.{needs}
 use Rattle.block.proofs.check.Statement.{statement}
 use Rattle.block.proofs.check.Tie as tie
 
-byte-at-requires : tie.Need-byte-at-requires
-byte-at-requires c κs = search needs
+-- the type and the length that were taken from the header bytes are the view's
+type-is : (c : tie.After-kind-type) → c .before .block-type .result ≡ typeOf (c .before .before .before .before .args .v .now)
+type-is c = let b = c .before in type-taken (b .before .before .before .args .v .now) _ (b .before .header-data .ensures) _ (b .block-type .ensures)
 
-cast-t6 : tie.Need-cast-t6
-cast-t6 c = search needs
+same : (e : tie.Else1) → let a = e .before .before .before .before .before .args in typeOf (a .v .now) ≡ kindType (a .k)
+same e = sym (type-is (e .before)) ∙ e .if1 .left ∙ e .before .kind-type .ensures
+
+says : (b : tie.After-block-length)
+    → let h = b .before .before .before .before .before .before in b .block-length .result ≡ blockLength (h .before .before .args .v .now)
+says b = let h = b .before .before .before .before .before .before in
+    length-taken (h .before .before .args .v .now) _ (h .header-data .ensures) _ (b .block-length .ensures .0)
+
+header-data-requires : tie.Need-header-data-requires
+header-data-requires c κs = search needs
+
+block-type-requires : tie.Need-block-type-requires
+block-type-requires c κs = search needs
+
+kind-type-requires : tie.Need-kind-type-requires
+kind-type-requires c κs = search needs
+
+cast-t8 : tie.Need-cast-t8
+cast-t8 c = search needs
 
 returns : tie.Need-returns
-returns c = let b = c .before in
-    let a = b .before .before .args in
-    rw (b .byte-at .ensures) (check-other (a .r) (a .t) (a .v .now) (λ q. c .if1 .taken (b .byte-at .ensures ∙ q)))
+returns c = let k = c .before in
+    let a = k .before .before .before .before .args in
+    rw (type-is k) (check-other (a .r) (a .k) (a .v .now) (λ q. c .if1 .taken (type-is k ∙ q ∙ sym (k .kind-type .ensures))))
 
-fit-requires : tie.Need-fit-requires
-fit-requires c κs = search needs
+enum-told : tie.Need-enum-told
+enum-told c = search needs
+
+standard-rule-requires : tie.Need-standard-rule-requires
+standard-rule-requires c κs = search needs
+
+enum-told-2 : tie.Need-enum-told-2
+enum-told-2 c = search needs
+
+block-length-requires : tie.Need-block-length-requires
+block-length-requires c κs = search needs
+
+crate-rule-requires : tie.Need-crate-rule-requires
+crate-rule-requires c κs = search needs
 
 returns-2 : tie.Need-returns-2
-returns-2 c = let b = c .before .before in
-    let a = b .before .before .args in
-    c .fit .ensures ∙ check-fit (a .r) (a .t) (a .v .now) (sym (b .byte-at .ensures) ∙ c .before .if1 .left)
+returns-2 c = let e = c .before in
+    let o = e .before .before in
+    let a = o .before .before .before .before .before .args in
+    c .standard-rule .ensures ∙ check-standard (a .r) (a .k) (a .v .now) (same o) (e .enum-told .given .1)
+
+returns-3 : tie.Need-returns-3
+returns-3 c = let b = c .before in
+    let e = b .before in
+    let o = e .before .before in
+    let a = o .before .before .before .before .before .args in
+    c .crate-rule .ensures
+    ∙ ap (λ (l : ℕ). crateRule (a .k) l (length (a .v .now))) (says b)
+    ∙ check-crate (a .r) (a .k) (a .v .now) (same o) (e .enum-told2 .given .1)
 
 pub check-spec : {M : Type 1} → statement M
-check-spec = tie.close (tie.spec byte-at-requires cast-t6 returns fit-requires returns-2)
+check-spec =
+    tie.close
+    (tie.spec
+    header-data-requires
+    block-type-requires
+    kind-type-requires
+    cast-t8
+    returns
+    enum-told
+    standard-rule-requires
+    enum-told-2
+    block-length-requires
+    crate-rule-requires
+    returns-2
+    returns-3)

@@ -1,61 +1,85 @@
 -- `block::crate_rule` meets its contract.
-use Rattle.block.proofs.BlockLaws.{crate-receipt, crate-clock, crate-echo, crate-echo-short, crate-other}
+use Rattle.block.proofs.BlockLaws.{crate-chunks, crate-times, crate-clock, crate-echoes, crate-echoes-short}
 use mathlib.Core.Path.{_∙_}
 use borrow.Author.Needs.{needs}
 use Rattle.block.proofs.crate_rule.Statement.{statement}
 use Rattle.block.proofs.crate_rule.Tie as tie
 
-returns : tie.Need-returns
-returns c = let a = c .before .args in crate-receipt (a .t) (a .l) (a .left) (c .if1 .taken)
+enum-known-k : tie.Need-enum-known-k
+enum-known-k c = search needs
+
+enum-told : tie.Need-enum-told
+enum-told c = search needs
 
 rule-requires : tie.Need-rule-requires
 rule-requires c κs = search needs
 
-returns-2 : tie.Need-returns-2
-returns-2 c = let t = c .before in
-    let a = t .before .before .args in
-    c .rule .ensures ∙ crate-clock (a .t) (a .l) (a .left) (t .before .if1 .left) (t .if2 .taken)
+enum-told-2 : tie.Need-enum-told-2
+enum-told-2 c = search needs
 
-add-rule : tie.Need-add-rule
-add-rule c = search needs
+enum-told-3 : tie.Need-enum-told-3
+enum-told-3 c = search needs
 
 rule-requires-2 : tie.Need-rule-requires-2
 rule-requires-2 c κs = search needs
 
-returns-3 : tie.Need-returns-3
-returns-3 c = let t = c .before in
-    let e = t .before in
-    let a = e .before .before .before .args in
-    c .rule2 .ensures ∙ crate-echo (a .t) (a .l) (a .left) (e .before .before .if1 .left) (e .before .if2 .left) (e .if3 .taken) (t .if4 .taken)
+enum-told-4 : tie.Need-enum-told-4
+enum-told-4 c = search needs
+
+add-rule : tie.Need-add-rule
+add-rule c = search needs
 
 rule-requires-3 : tie.Need-rule-requires-3
 rule-requires-3 c κs = search needs
 
-returns-4 : tie.Need-returns-4
-returns-4 c = let t = c .before in
+returns : tie.Need-returns
+returns c = let t = c .before in
     let e = t .before in
-    let a = e .before .before .before .args in
-    c .rule3 .ensures ∙ crate-echo-short (a .t) (a .l) (a .left) (e .before .before .if1 .left) (e .before .if2 .left) (e .if3 .taken) (t .if4 .left)
+    let a = e .before .before .args in
+    c .rule3 .ensures ∙ crate-echoes (a .k) (a .l) (a .left) (e .enum-told4 .given .1) (t .if1 .taken)
 
 rule-requires-4 : tie.Need-rule-requires-4
 rule-requires-4 c κs = search needs
 
+returns-2 : tie.Need-returns-2
+returns-2 c = let t = c .before in
+    let g = t .before .before .before in
+    let a = g .before .before .args in
+    c .rule .ensures
+    ∙ crate-chunks (a .k) (a .l) (a .left) (g .k .given .0 .0) (t .enum-told .given .0 .0) (g .k .given .1) (t .enum-told .given .1)
+
+returns-3 : tie.Need-returns-3
+returns-3 c = let g = c .before .before .before in
+    let a = g .before .before .args in
+    crate-times (a .k) (a .l) (a .left) (g .k .given .0 .0) (g .k .given .1) (c .enum-told2 .given .1)
+
+returns-4 : tie.Need-returns-4
+returns-4 c = let e = c .before in
+    let a = e .before .before .args in
+    c .rule2 .ensures ∙ crate-clock (a .k) (a .l) (a .left) (e .enum-told3 .given .1)
+
 returns-5 : tie.Need-returns-5
-returns-5 c = let e = c .before in
-    let a = e .before .before .before .args in
-    c .rule4 .ensures ∙ crate-other (a .t) (a .l) (a .left) (e .before .before .if1 .left) (e .before .if2 .left) (e .if3 .left)
+returns-5 c = let t = c .before in
+    let e = t .before in
+    let a = e .before .before .args in
+    c .rule4 .ensures ∙ crate-echoes-short (a .k) (a .l) (a .left) (e .enum-told4 .given .1) (t .if1 .left)
 
 pub crate-rule-spec : {M : Type 1} → statement M
 crate-rule-spec =
     tie.close
     (tie.spec
-    returns
+    enum-known-k
+    enum-told
     rule-requires
-    returns-2
-    add-rule
+    enum-told-2
+    enum-told-3
     rule-requires-2
-    returns-3
+    enum-told-4
+    add-rule
     rule-requires-3
-    returns-4
+    returns
     rule-requires-4
+    returns-2
+    returns-3
+    returns-4
     returns-5)

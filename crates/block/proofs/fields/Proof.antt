@@ -20,7 +20,7 @@ returns c = let k = c .before in
     let t = k .before in
     let h = t .before .before in
     let a = h .before .before .args in
-    fields-cut (a .r) (a .t) (a .v .now) (sym (h .check .ensures) ∙ t .enum-told .given .1) (sym (k .is-cut .ensures) ∙ c .if1 .taken)
+    fields-cut (a .r) (a .g) (a .v .now) (sym (h .check .ensures) ∙ t .enum-told .given .1) (sym (k .is-cut .ensures) ∙ c .if1 .taken)
 
 fields-at-requires : tie.Need-fields-at-requires
 fields-at-requires c κs = search needs
@@ -34,13 +34,13 @@ returns-2 c = let k = c .before .before in
     let h = t .before .before in
     let a = h .before .before .args in
     ap Shown (c .fields-at .ensures)
-    ∙ fields-shown (a .r) (a .t) (a .v .now) (sym (h .check .ensures) ∙ t .enum-told .given .1) (sym (k .is-cut .ensures) ∙ c .before .if1 .left)
+    ∙ fields-shown (a .r) (a .g) (a .v .now) (sym (h .check .ensures) ∙ t .enum-told .given .1) (sym (k .is-cut .ensures) ∙ c .before .if1 .left)
 
 returns-3 : tie.Need-returns-3
 returns-3 c = let x = c .before in
     let h = x .before .before in
     let a = h .before .before .args in
-    fields-unfit (a .r) (a .t) (a .v .now) (x .x .given .0 .0) (sym (h .check .ensures) ∙ x .x .given .1)
+    fields-unfit (a .r) (a .g) (a .v .now) (x .x .given .0 .0) (sym (h .check .ensures) ∙ x .x .given .1)
 
 pub fields-spec : {M : Type 1} → statement M
 fields-spec =

@@ -1,7 +1,13 @@
 -- `block::fields_at` meets its contract: SSRC, begin, end and thinning as they stand.
+use mathlib.Core.Path.{_≡_}
 use borrow.Author.Needs.{needs}
 use Rattle.block.proofs.fields_at.Statement.{statement}
+use Rattle.def_wire.specs.Block.{specificOf}
+use Rattle.xr.proofs.HeaderBytes.{specific-taken}
 use Rattle.block.proofs.fields_at.Tie as tie
+
+header-data-requires : tie.Need-header-data-requires
+header-data-requires c κs = search needs
 
 u32-from-be-bytes-requires : tie.Need-u32-from-be-bytes-requires
 u32-from-be-bytes-requires c κs = search needs
@@ -12,18 +18,22 @@ u16-from-be-bytes-requires c κs = search needs
 u16-from-be-bytes-requires-2 : tie.Need-u16-from-be-bytes-requires-2
 u16-from-be-bytes-requires-2 c κs = search needs
 
-byte-at-requires : tie.Need-byte-at-requires
-byte-at-requires c κs = search needs
+type-specific-byte-requires : tie.Need-type-specific-byte-requires
+type-specific-byte-requires c κs = search needs
 
 returns : tie.Need-returns
-returns c = rw (c .before .before .before .u32-from-be-bytes .ensures, c .before .before .u16-from-be-bytes .ensures, c .before .u16-from-be-bytes2 .ensures, c .byte-at .ensures)
+returns c = let h = c .before .before .before .before in
+    let v = h .before .before .args .v .now in
+    let t : c .type-specific-byte .result ≡ specificOf v = specific-taken v _ (h .header-data .ensures) _ (c .type-specific-byte .ensures) in
+    cc
 
 pub fields-at-spec : {M : Type 1} → statement M
 fields-at-spec =
     tie.close
     (tie.spec
+    header-data-requires
     u32-from-be-bytes-requires
     u16-from-be-bytes-requires
     u16-from-be-bytes-requires-2
-    byte-at-requires
+    type-specific-byte-requires
     returns)

@@ -1,8 +1,9 @@
 -- `block::time_in` meets its contract: the time of block k of a packet.
 use Rattle.block.proofs.BlockLaws.{time-asked, time-missing}
-use Rattle.xr.proofs.WalkLaws.{located-within}
-use native.Mathlib.Omega.{arith}
-use mathlib.Core.Path.{sym, _∙_}
+use Rattle.def_wire.specs.Block.{timeOf}
+use Prim.Native.Nat.{ℕ}
+use mathlib.Core.List.{List}
+use mathlib.Core.Path.{sym, ap, _∙_}
 use borrow.Author.Needs.{needs}
 use Rattle.block.proofs.time_in.Statement.{statement}
 use Rattle.block.proofs.time_in.Tie as tie
@@ -13,23 +14,8 @@ locate-requires c κs = search needs
 enum-known-at : tie.Need-enum-known-at
 enum-known-at c = search needs
 
-add-time : tie.Need-add-time
-add-time c = let p = c .before in
-    let l = p .before .before in
-    let a = l .before .before .args in
-    omega (arith, located-within (a .r) (a .s .now) (a .k) (p .at .given .0 .0) (p .at .given .0 .1 .0) (sym (l .locate .ensures) ∙ p .at .given .1) .end)
-
-sub-time : tie.Need-sub-time
-sub-time c = search needs
-
-part-time-start : tie.Need-part-time-start
-part-time-start c = search needs
-
-part-time-end : tie.Need-part-time-end
-part-time-end c = let p = c .before in
-    let l = p .before .before in
-    let a = l .before .before .args in
-    omega (arith, located-within (a .r) (a .s .now) (a .k) (p .at .given .0 .0) (p .at .given .0 .1 .0) (sym (l .locate .ensures) ∙ p .at .given .1) .end)
+part-requires : tie.Need-part-requires
+part-requires c κs = search needs
 
 time-requires : tie.Need-time-requires
 time-requires c κs = search needs
@@ -38,10 +24,12 @@ enum-known-x : tie.Need-enum-known-x
 enum-known-x c = search needs
 
 returns : tie.Need-returns
-returns c = let p = c .before .before .before in
+returns c = let q = c .before in
+    let p = q .before .before in
     let l = p .before .before in
     let a = l .before .before .args in
-    c .time .ensures ∙ time-asked (a .r) (a .s .now) (a .k) (p .at .given .0 .0) (p .at .given .0 .1 .0) (sym (l .locate .ensures) ∙ p .at .given .1)
+    c .time .ensures ∙ ap (λ (v : List ℕ). timeOf (a .r) v) (q .part .ensures .0)
+    ∙ time-asked (a .r) (a .s .now) (a .k) (p .at .given .0 .0) (p .at .given .0 .1 .0) (sym (l .locate .ensures) ∙ p .at .given .1)
 
 returns-2 : tie.Need-returns-2
 returns-2 c = let p = c .before in
@@ -55,10 +43,7 @@ time-in-spec =
     (tie.spec
     locate-requires
     enum-known-at
-    add-time
-    sub-time
-    part-time-start
-    part-time-end
+    part-requires
     time-requires
     enum-known-x
     returns

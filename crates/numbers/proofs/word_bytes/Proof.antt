@@ -1,5 +1,6 @@
 -- `numbers::word_bytes` meets its contract: the bytes of the words that a reading reads.
 use Rattle.numbers.proofs.AskedLaws.{bytes-standard, bytes-crate}
+use Rattle.xr.proofs.HeaderBytes.{length-taken}
 use mathlib.Core.Path.{_∙_}
 use borrow.Author.Needs.{needs}
 use Rattle.numbers.proofs.word_bytes.Statement.{statement}
@@ -8,47 +9,49 @@ use Rattle.numbers.proofs.word_bytes.Tie as tie
 enum-told : tie.Need-enum-told
 enum-told c = search needs
 
-body-requires : tie.Need-body-requires
-body-requires c κs = search needs
+part-requires : tie.Need-part-requires
+part-requires c κs = search needs
 
 enum-told-2 : tie.Need-enum-told-2
 enum-told-2 c = search needs
 
-body-requires-2 : tie.Need-body-requires-2
-body-requires-2 c κs = search needs
+header-data-requires : tie.Need-header-data-requires
+header-data-requires c κs = search needs
 
-says-requires : tie.Need-says-requires
-says-requires c κs = search needs
+block-length-requires : tie.Need-block-length-requires
+block-length-requires c κs = search needs
 
-less-14-requires : tie.Need-less-14-requires
-less-14-requires c κs = search needs
+above-requires : tie.Need-above-requires
+above-requires c κs = search needs
 
-first-requires : tie.Need-first-requires
-first-requires c κs = search needs
+part-requires-2 : tie.Need-part-requires-2
+part-requires-2 c κs = search needs
 
 returns : tie.Need-returns
-returns c = let t = c .before in
-    let a = t .before .before .before .args in
-    c .body .ensures ∙ bytes-standard (a .r) (a .v .now) (t .enum-told .given .1)
+returns c = let e = c .before in
+    let a = e .before .before .before .args in
+    c .part .ensures .0 ∙ bytes-standard (a .r) (a .v .now) (e .enum-told .given .1)
 
 returns-2 : tie.Need-returns-2
-returns-2 c = let l = c .before in
-    let s = l .before in
-    let b = s .before in
-    let t = b .before in
-    let a = t .before .before .before .args in
-    c .first .ensures ∙ bytes-crate (a .r) (a .v .now) (l .less-14 .result) (s .says .result) _ (t .enum-told2 .given .1) (l .less-14 .ensures) (s .says .ensures .0) (b .body2 .ensures)
+returns-2 c = let b = c .before in
+    let l = b .before in
+    let h = l .before in
+    let e = h .before in
+    let a = e .before .before .before .args in
+    c .part2 .ensures .0
+    ∙ bytes-crate (a .r) (a .v .now) (b .above .result) (l .block-length .result) (e .enum-told2 .given .1) (b .above .ensures)
+    (length-taken (a .v .now) _ (h .header-data .ensures) _ (l .block-length .ensures .0))
 
 pub word-bytes-spec : {M : Type 1} → statement M
 word-bytes-spec =
     tie.close
     (tie.spec
     enum-told
-    body-requires
+    part-requires
     enum-told-2
-    body-requires-2
-    says-requires
-    less-14-requires
-    first-requires
+    header-data-requires
+    block-length-requires
+    above-requires
+    part-requires-2
     returns
     returns-2)
