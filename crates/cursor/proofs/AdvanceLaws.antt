@@ -3,22 +3,25 @@
 --     advancing-*              of words in a range: 16, 11, or a stretch
 --     stretched-*              of a block's view: 10 and 7, or the words
 --     stretched-at, -missing   of a packet and a block's index
-use Prim.Native.Nat.{ℕ, _+_, _-_, min, _≤_, _<_}
-use mathlib.Core.Path.{_≡_, sym, ap, _∙_}
+use Prim.Native.Nat.{ℕ, _≤_, _<_}
+use mathlib.Core.Path.{_≡_, ap}
 use mathlib.Core.Bool.{true, false}
 use mathlib.Core.List.{List}
 use native.Mathlib.Omega.{arith}
-use lib.ListN.{length, take, drop, length-drop, drop-of-length-le}
+use lib.ListN.{length, drop, length-drop}
 use lib.Seq.{take-all}
-use lib.Dec.{ltb, eqb}
-use borrow.Author.Tests.{le-leb, lt-leb, ltb-true, ltb-false}
-use Rattle.laws.proofs.Tests.{both, either}
+use lib.Dec.{eqb}
+use borrow.Author.Tests.{le-leb, lt-leb}
+use Rattle.laws.proofs.Tests.{both}
 use Rattle.def_refusals.specs.declared.Refusal.{Refusal}
 use Rattle.def_refusals.specs.declared.Refusal.the-variants.{NoPlace, NoRoom}
 use Rattle.def_refusals.specs.declared.Checked.the-variants.{Fine, Unfit}
 use Rattle.def_wire.specs.declared.Fields.{Fields}
 use Rattle.def_wire.specs.declared.Located.the-variants.{At, Missing}
 use Rattle.def_wire.specs.declared.Reading.the-variants.{Standard}
+use Rattle.def_wire.specs.declared.Rle.{Rle}
+use Rattle.def_wire.specs.declared.Ranged.the-variants.{Chunks}
+use Rattle.def_wire.specs.declared.Kind.the-variants.{Spans}
 use Rattle.def_wire.specs.Packet.{locate, part}
 use Rattle.def_wire.specs.Block.{fieldsAt, checkOf}
 use Rattle.def_standard.specs.declared.Range.{Range}
@@ -41,14 +44,9 @@ range-size f = both (λ (n : ℕ). n ≤ circle) (eqb (f .begin) (f .end)) (λ _
 pub range-fits : (f : Fields) → insideCount (rangeOf f) ≤ circle
 range-fits f = omega (arith, range-size f, inside-count-le (rangeOf f))
 
--- the part that is lent behind the fields; a block that is shorter than they are has no words
-pub words-behind : (v : List ℕ) (b : ℕ) → b ≡ min 12 (length v) → take (length v - b) (drop b v) ≡ drop 12 v
-words-behind v b e =
-    take-all (length v - b) (drop b v) (omega (arith, length-drop b v))
-    ∙ either (ltb (length v) 12)
-    (λ t. let h : length v < 12 = ltb-true _ _ t in
-    drop-of-length-le v {i = b} (omega arith) ∙ sym (drop-of-length-le v {i = 12} (omega arith)))
-    (λ f. let h : 12 ≤ length v = ltb-false _ _ f in let k : b ≡ 12 = omega arith in rw k)
+-- the part that is lent behind the fields: all of the words' bytes
+pub words-behind : (v : List ℕ) → part v 12 (length v) ≡ drop 12 v
+words-behind v = take-all (length v) (drop 12 v) (let h : length (drop 12 v) ≤ length v = omega (arith, length-drop 12 v) in h)
 
 -- ---- words in a range
 
@@ -64,25 +62,24 @@ module _ (g : Range) (ws : List ℕ) (c : Cursor) (budget : ℕ) (out : List ℕ
 
 -- ---- a block's view
 
-module _ (t : ℕ) (v : List ℕ) (c : Cursor) (budget : ℕ) (out : List ℕ) where
-  pub stretched-fit : (r : Advanced) (out′ : List ℕ) → checkOf Standard t v ≡ Fine → Advancing (rangeOf (fieldsAt v)) (standardWords v) c budget out r out′
-      → Stretched t v c budget out r out′
+module _ (a : Rle) (v : List ℕ) (c : Cursor) (budget : ℕ) (out : List ℕ) where
+  pub stretched-fit : (r : Advanced) (out′ : List ℕ) → checkOf Standard (Spans (Chunks a)) v ≡ Fine → Advancing (rangeOf (fieldsAt v)) (standardWords v) c budget out r out′
+      → Stretched a v c budget out r out′
   unfolding advanceFault advanceOf stretchFilled
   stretched-fit r out′ e p = record { answer = rw e (p .answer); filled = rw e (p .filled) }
 
-  pub stretched-unfit : (x : Refusal) → checkOf Standard t v ≡ Unfit x → Stretched t v c budget out (Stuck x) out
+  pub stretched-unfit : (x : Refusal) → checkOf Standard (Spans (Chunks a)) v ≡ Unfit x → Stretched a v c budget out (Stuck x) out
   unfolding advanceFault advanceOf stretchFilled
   stretched-unfit x e = record { answer = rw e; filled = rw e }
 
--- ---- a packet and a block's index: the part that was lent is the view
+-- ---- a packet and a block's index
 
-module _ (s : List ℕ) (k t : ℕ) (c : Cursor) (budget : ℕ) (out : List ℕ) where
-  pub stretched-at : (at n : ℕ) (r : Advanced) (out′ : List ℕ) → locate Standard s k ≡ At at n → Stretched t (take (at + n - at) (drop at s)) c budget out r out′
-      → StretchedIn s k t c budget out r out′
-  stretched-at at n r out′ e p =
-      let q : at + n - at ≡ n = omega arith in
-      let f : Stretched t (part s at n) c budget out r out′ = rw q at p in
+module _ (s : List ℕ) (k : ℕ) (a : Rle) (c : Cursor) (budget : ℕ) (out : List ℕ) where
+  pub stretched-at : (at n : ℕ) (v : List ℕ) (r : Advanced) (out′ : List ℕ) → locate Standard s k ≡ At at n → v ≡ part s at n
+      → Stretched a v c budget out r out′ → StretchedIn s k a c budget out r out′
+  stretched-at at n v r out′ e q p =
+      let f : Stretched a (part s at n) c budget out r out′ = rw q at p in
       record { answer = rw e (f .answer); filled = rw e (f .filled) }
 
-  pub stretched-missing : (x : Refusal) → locate Standard s k ≡ Missing x → StretchedIn s k t c budget out (Stuck x) out
+  pub stretched-missing : (x : Refusal) → locate Standard s k ≡ Missing x → StretchedIn s k a c budget out (Stuck x) out
   stretched-missing x e = record { answer = rw e; filled = rw e }

@@ -14,6 +14,7 @@ use lib.ListN.{length, take, drop}
 use lib.Seq.{take-append-seam}
 use Rattle.def_refusals.specs.declared.Checked.{Checked}
 use Rattle.def_refusals.specs.declared.Checked.the-variants.{Fine, Unfit}
+use Rattle.def_wire.specs.declared.Rle.{Rle}
 use Rattle.def_wire.specs.Block.{fieldsAt}
 use Rattle.def_standard.specs.declared.Range.{Range}
 use Rattle.def_standard.specs.Range.{circle, rangeOf}
@@ -56,20 +57,20 @@ moved-fine : (f : Checked) (u s : Stretch) (l out out′ : List ℕ) → Moved s
 moved-fine Fine u s l out out′ p q = (cc, q)
 moved-fine (Unfit x) u s l out out′ p q = absurd (let z : _≡_ {A = ℕ} 0 1 = cc in omega arith)
 
-module _ (t : ℕ) (v : List ℕ) where
+module _ (a : Rle) (v : List ℕ) where
   abbrev g : Range
   g = rangeOf (fieldsAt v)
 
   abbrev ws : List ℕ
   ws = standardWords v
 
-  moved-stretch : (c : Cursor) (b : ℕ) (out out′ : List ℕ) (s : Stretch) → Stretched t v c b out (Moved s) out′
+  moved-stretch : (c : Cursor) (b : ℕ) (out out′ : List ℕ) (s : Stretch) → Stretched a v c b out (Moved s) out′
       → (s ≡ stretchOf g ws c b) × (out′ ≡ listedBy g ws b c ++ drop (length (listedBy g ws b c)) out)
   unfolding advanceOf stretchFilled
-  moved-stretch c b out out′ s p = moved-fine (advanceFault t v c b (length out)) (stretchOf g ws c b) s (listedBy g ws b c) out out′ (p .answer) (p .filled)
+  moved-stretch c b out out′ s p = moved-fine (advanceFault a v c b (length out)) (stretchOf g ws c b) s (listedBy g ws b c) out out′ (p .answer) (p .filled)
 
   -- what calls list, joined, is what their stretches list
-  calls-stretches : {bs : List ℕ} {c : Cursor} {l : List ℕ} → Calls t v bs c l → l ≡ stretches g ws bs c
+  calls-stretches : {bs : List ℕ} {c : Cursor} {l : List ℕ} → Calls a v bs c l → l ≡ stretches g ws bs c
   unfolding stretches
   calls-stretches ended = refl
   calls-stretches (called {b} {bs} {c} {l} {out} {out′} {s} p r) =
@@ -80,5 +81,5 @@ module _ (t : ℕ) (v : List ℕ) where
       rw (h, ← k) (ap (λ (x : List ℕ). listedBy g ws b c ++ x) (calls-stretches r))
 
   -- calls of `advance` from the start on whose budgets suffice list what the list function lists
-  pub calls-list : (bs l : List ℕ) → Calls t v bs start l → stepsLeft (standardWords v) 0 ≤ total bs → l ≡ standardNumbers v
+  pub calls-list : (bs l : List ℕ) → Calls a v bs start l → stepsLeft (standardWords v) 0 ≤ total bs → l ≡ standardNumbers v
   calls-list bs l p h = calls-stretches p ∙ calls-block v bs h

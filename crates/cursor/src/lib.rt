@@ -17,21 +17,11 @@ use def_cursor::Stretch;
 use def_refusals::Checked;
 use def_refusals::Refusal;
 use def_standard::Range;
+use def_wire::Kind;
 use def_wire::Located;
+use def_wire::Ranged;
 use def_wire::Reading;
-
-fn lesser(a: usize, b: usize) -> usize
-    ensures { λ r. ⌜ r ≡ min a b ⌝ }
-{
-    if a <= b { a } else { b }
-}
-
-// What is left of a above b.
-fn above(a: usize, b: usize) -> usize
-    ensures { λ r. ⌜ r ≡ a - b ⌝ }
-{
-    if a <= b { 0 } else { a - b }
-}
+use def_wire::Rle;
 
 // The word at an index of the words.
 fn word_at(bytes: &[u8], i: usize) -> u16
@@ -73,8 +63,8 @@ fn moved(w: u16, m: usize, c: Cursor) -> Cursor
     requires { ⌜ (c .position ≤ circle) × (c .place + m ≤ stepsIn w) × (c .word + 1 < 18446744073709551616) ⌝ }
     ensures { λ r. ⌜ r ≡ movedIn w m c ⌝ }
 {
-    let passed = lesser(m, chunk::covers(w) as usize);
-    let position = lesser(c.position + passed, 65536);
+    let passed = utils::lesser(m, chunk::covers(w) as usize);
+    let position = utils::lesser(c.position + passed, 65536);
     if c.place + m < steps_in(w) {
         return Cursor {
             word: c.word,
@@ -114,7 +104,10 @@ fn go(bytes: &[u8], g: Range, c: Cursor, budget: usize, out: &mut [u16]) -> Stre
         }
         let w = word_at(bytes, i);
         let takes = steps_in(w) - at.place;
-        let room = lesser(lesser(left, takes), above(inside, at.position));
+        let room = utils::lesser(
+            utils::lesser(left, takes),
+            utils::above(inside, at.position),
+        );
         let first = range::number_at(g, at.position);
         n = store::store_places(out, n, w, at.place, room, first, step);
         if left < takes {
@@ -149,28 +142,27 @@ fn advance_words(bytes: &[u8], g: Range, c: Cursor, budget: usize, out: &mut [u1
     Advanced::Moved(go(bytes, g, c, budget, out))
 }
 
-// Takes at most budget steps in a block, asked as type t: 10, 7, 16, 11. It lists the stretch's numbers and gives the next cursor and the steps
+// Takes at most budget steps in a block, asked as type 1 or 2: 10, 7, 16, 11. It lists the stretch's numbers and gives the next cursor and the steps
 // taken. A call costs what the words that it reads and the numbers that it stores cost, whatever the budget (document 01, "Views, cursors and the
 // dump"; RFC 3611, 4.1). Port of: rle.rs RleSequenceIter; differs: a budget and a cursor in place of an iterator, and the standard reading.
-pub fn advance(t: u8, v: &[u8], c: Cursor, budget: usize, out: &mut [u16]) -> Advanced
-    ensures { λ r. ⌜ Stretched t (now (v .entry)) c budget (now (out .entry)) r (now (out .exit)) ⌝ }
+pub fn advance(a: Rle, v: &[u8], c: Cursor, budget: usize, out: &mut [u16]) -> Advanced
+    ensures { λ r. ⌜ Stretched a (now (v .entry)) c budget (now (out .entry)) r (now (out .exit)) ⌝ }
 {
-    match block::check(Reading::Standard, t, v) {
+    match block::check(Reading::Standard, Kind::Spans(Ranged::Chunks(a)), v) {
         Checked::Fine => {
             let g = range::range_of(block::fields_at(v));
-            let behind = lesser(12, v.len());
-            advance_words(&v[behind..], g, c, budget, out)
+            advance_words(utils::part(v, 12, v.len()), g, c, budget, out)
         }
         Checked::Unfit(x) => Advanced::Stuck(x),
     }
 }
 
 // The same of block k of a packet: 1 to 6, 9, 10, 7, 16, 11.
-pub fn advance_in(s: &[u8], k: usize, t: u8, c: Cursor, budget: usize, out: &mut [u16]) -> Advanced
-    ensures { λ r. ⌜ StretchedIn (now (s .entry)) k t c budget (now (out .entry)) r (now (out .exit)) ⌝ }
+pub fn advance_in(s: &[u8], k: usize, a: Rle, c: Cursor, budget: usize, out: &mut [u16]) -> Advanced
+    ensures { λ r. ⌜ StretchedIn (now (s .entry)) k a c budget (now (out .entry)) r (now (out .exit)) ⌝ }
 {
     match xr::locate(Reading::Standard, s, k) {
-        Located::At(at, n) => advance(t, &s[at..at + n], c, budget, out),
+        Located::At(at, n) => advance(a, utils::part(s, at, n), c, budget, out),
         Located::Missing(x) => Advanced::Stuck(x),
     }
 }

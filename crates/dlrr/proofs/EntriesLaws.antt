@@ -3,18 +3,20 @@ use Prim.Native.Nat.{ℕ, _+_, _-_, _/_, _≤_, _<_}
 use mathlib.Core.Path.{_≡_, refl, ap, _∙_}
 use mathlib.Core.List.{List, [], _∷_, map}
 use native.Mathlib.Omega.{arith}
-use lib.ListN.{length, drop, take, length-drop, length-map}
+use lib.ListN.{length, drop, length-drop, length-map}
 use Rattle.def_refusals.specs.declared.Refusal.{Refusal}
 use Rattle.def_refusals.specs.declared.Refusal.the-variants.{NoRoom}
+use Rattle.def_refusals.specs.declared.Answer.{Answer}
 use Rattle.def_refusals.specs.declared.Answer.the-variants.{Done, Refused}
 use Rattle.def_refusals.specs.declared.Checked.the-variants.{Fine, Unfit}
 use Rattle.def_refusals.specs.Answers.{Or, shown, refused, each}
 use Rattle.laws.proofs.Answering.{answer-listed, answer-full, answer-refused, filled-listed, filled-full, filled-refused}
 use Rattle.def_wire.specs.declared.Reading.{Reading}
 use Rattle.def_wire.specs.declared.Located.the-variants.{At, Missing}
-use Rattle.def_wire.specs.Packet.{locate}
+use Rattle.def_wire.specs.Packet.{locate, part}
 use Rattle.def_wire.specs.Bytes.{be32, words32}
-use Rattle.def_wire.specs.Block.{checkOf, echoType}
+use Rattle.def_wire.specs.declared.Kind.the-variants.{Echoes}
+use Rattle.def_wire.specs.Block.{checkOf}
 use Rattle.def_standard.specs.declared.Echo.{Echo}
 use Rattle.def_standard.specs.Standard.{echoesOf, entriesOf}
 use Rattle.def_questions.specs.Questions.{entriesShown, ListedEntries, least3}
@@ -80,17 +82,22 @@ module _ (whole : Or (List Echo)) (ss ls ds : List ℕ) where
       }
 
 -- ---- what is asked
-pub entries-fine : (r : Reading) (v : List ℕ) → checkOf r echoType v ≡ Fine → entriesShown r v ≡ shown (entriesOf v)
+pub entries-fine : (r : Reading) (v : List ℕ) → checkOf r Echoes v ≡ Fine → entriesShown r v ≡ shown (entriesOf v)
 unfolding entriesShown
 entries-fine r v e = rw e
 
-pub entries-unfit : (r : Reading) (v : List ℕ) (x : Refusal) → checkOf r echoType v ≡ Unfit x → entriesShown r v ≡ refused x
+pub entries-unfit : (r : Reading) (v : List ℕ) (x : Refusal) → checkOf r Echoes v ≡ Unfit x → entriesShown r v ≡ refused x
 unfolding entriesShown
 entries-unfit r v x e = rw e
 
-pub entries-asked : (r : Reading) (s : List ℕ) (k at n : ℕ) → locate r s k ≡ At at n → entriesAsked r s k ≡ entriesShown r (take (at + n - at) (drop at s))
+pub entries-asked : (r : Reading) (s : List ℕ) (k at n : ℕ) → locate r s k ≡ At at n → entriesShown r (part s at n) ≡ entriesAsked r s k
 unfolding entriesAsked
-entries-asked r s k at n e = let q : at + n - at ≡ n = omega arith in rw (e, q)
+entries-asked r s k at n e = rw e
+
+-- a listing call's contract, of what is asked said otherwise
+pub entries-as : {whole asked : Or (List Echo)} {ss ls ds ss′ ls′ ds′ : List ℕ} {a : Answer} → whole ≡ asked
+    → ListedEntries whole ss ls ds a ss′ ls′ ds′ → ListedEntries asked ss ls ds a ss′ ls′ ds′
+entries-as e l = rw (← e) l
 
 pub entries-missing : (r : Reading) (s : List ℕ) (k : ℕ) (x : Refusal) → locate r s k ≡ Missing x → entriesAsked r s k ≡ refused x
 unfolding entriesAsked

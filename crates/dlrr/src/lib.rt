@@ -12,6 +12,7 @@ use def_refusals::Answer;
 use def_refusals::Checked;
 use def_refusals::Refusal;
 use def_standard::Echo;
+use def_wire::Kind;
 use def_wire::Located;
 use def_wire::Reading;
 use def_wire::ShortTime;
@@ -58,12 +59,6 @@ fn store(v: &[u8], n: usize, ssrcs: &mut [u32], lasts: &mut [u32], delays: &mut 
     }
 }
 
-fn lesser(a: usize, b: usize) -> usize
-    ensures { λ r. ⌜ r ≡ min a b ⌝ }
-{
-    if a <= b { a } else { b }
-}
-
 // The entries of a block's view: 10, 7, 11.
 pub fn entries(
     r: Reading,
@@ -74,10 +69,10 @@ pub fn entries(
 ) -> Answer
     ensures { λ a. ⌜ ListedEntries (entriesShown r (now (v .entry))) (now (ssrcs .entry)) (now (lasts .entry)) (now (delays .entry)) a (now (ssrcs .exit)) (now (lasts .exit)) (now (delays .exit)) ⌝ }
 {
-    match block::check(r, 5, v) {
+    match block::check(r, Kind::Echoes, v) {
         Checked::Fine => {
             let n = count(v);
-            let room = lesser(lesser(ssrcs.len(), lasts.len()), delays.len());
+            let room = utils::lesser(utils::lesser(ssrcs.len(), lasts.len()), delays.len());
             if room < n {
                 return Answer::Refused(Refusal::NoRoom(n, room));
             }
@@ -100,7 +95,7 @@ pub fn entries_in(
     ensures { λ a. ⌜ ListedEntries (entriesAsked r (now (s .entry)) k) (now (ssrcs .entry)) (now (lasts .entry)) (now (delays .entry)) a (now (ssrcs .exit)) (now (lasts .exit)) (now (delays .exit)) ⌝ }
 {
     match xr::locate(r, s, k) {
-        Located::At(at, n) => entries(r, &s[at..at + n], ssrcs, lasts, delays),
+        Located::At(at, n) => entries(r, utils::part(s, at, n), ssrcs, lasts, delays),
         Located::Missing(x) => Answer::Refused(x),
     }
 }

@@ -1,12 +1,13 @@
 -- What a reading is asked, and each way in which a call that lists pairs ends.
-use Prim.Native.Nat.{ℕ, _+_, _-_, _%_, _^_, _≤_, _<_, min}
+use Prim.Native.Nat.{ℕ, _-_, _%_, _^_, _≤_, _<_, min}
 use native.Mathlib.Nat.{one-mul}
 use mathlib.Core.Path.{_≡_, refl, ap, _∙_}
 use mathlib.Core.List.{List, map}
 use native.Mathlib.Omega.{arith}
-use lib.ListN.{length, drop, take, length-map}
+use lib.ListN.{length, drop, length-map}
 use Rattle.def_refusals.specs.declared.Refusal.{Refusal}
 use Rattle.def_refusals.specs.declared.Refusal.the-variants.{NoRoom}
+use Rattle.def_refusals.specs.declared.Answer.{Answer}
 use Rattle.def_refusals.specs.declared.Answer.the-variants.{Done, Refused}
 use Rattle.def_refusals.specs.declared.Checked.the-variants.{Fine, Unfit}
 use Rattle.def_refusals.specs.Answers.{Or, shown, refused, each}
@@ -15,9 +16,11 @@ use Rattle.def_wire.specs.declared.Reading.{Reading}
 use Rattle.def_wire.specs.declared.Reading.the-variants.{Standard, Crate}
 use Rattle.def_wire.specs.declared.Fields.{Fields}
 use Rattle.def_wire.specs.declared.Located.the-variants.{At, Missing}
-use Rattle.def_wire.specs.Packet.{locate}
+use Rattle.def_wire.specs.Packet.{locate, part}
 use Rattle.def_wire.specs.Bytes.{words32}
-use Rattle.def_wire.specs.Block.{checkOf, receiptType, fieldsAt}
+use Rattle.def_wire.specs.declared.Ranged.the-variants.{Times}
+use Rattle.def_wire.specs.declared.Kind.the-variants.{Spans}
+use Rattle.def_wire.specs.Block.{checkOf, fieldsAt}
 use Rattle.def_standard.specs.declared.Range.{Range}
 use Rattle.def_standard.specs.declared.Receipt.{Receipt}
 use Rattle.def_standard.specs.Range.{rangeOf, numberOf}
@@ -42,7 +45,7 @@ range-thinning f = refl
 
 module _ (r : Reading) (v : List ℕ) where
   -- the list that is shown, from the first number, the step and the count that were found
-  pub pairs-fine : checkOf r receiptType v ≡ Fine → fieldsAt v .begin < 65536 → fieldsAt v .end < 65536 → length (words32 (drop 12 v)) ≤ never
+  pub pairs-fine : checkOf r (Spans Times) v ≡ Fine → fieldsAt v .begin < 65536 → fieldsAt v .end < 65536 → length (words32 (drop 12 v)) ≤ never
       → (first step n : ℕ) → first ≡ numberOf (rangeOf (fieldsAt v)) 0 → step ≡ stepOf (fieldsAt v .thinning)
       → n ≡ min (listable r (fieldsAt v)) (length (words32 (drop 12 v))) → pairsShown r v ≡ shown (stepped step first n (words32 (drop 12 v)))
   unfolding pairsShown
@@ -55,7 +58,7 @@ module _ (r : Reading) (v : List ℕ) where
       ∙ ap (λ (m : ℕ). firstPairs g 0 m ts) (let z : listable r (fieldsAt v) - 0 ≡ listable r (fieldsAt v) = omega arith in z)
       ∙ first-all g 0 (listable r (fieldsAt v)) ts ∙ first-stepped g 0 (min (listable r (fieldsAt v)) (length ts)) ts ∙ (rw (f, range-thinning (fieldsAt v), s, nn))))
 
-  pub pairs-unfit : (x : Refusal) → checkOf r receiptType v ≡ Unfit x → pairsShown r v ≡ refused x
+  pub pairs-unfit : (x : Refusal) → checkOf r (Spans Times) v ≡ Unfit x → pairsShown r v ≡ refused x
   unfolding pairsShown
   pairs-unfit x e = rw e
 
@@ -67,15 +70,20 @@ pub listable-crate : (r : Reading) (f : Fields) → r ≡ Crate → listable Cra
 listable-crate r f e = rw e
 
 module _ (r : Reading) (s : List ℕ) (k : ℕ) where
-  pub pairs-asked : (at n : ℕ) → locate r s k ≡ At at n → pairsAsked r s k ≡ pairsShown r (take (at + n - at) (drop at s))
+  pub pairs-asked : (at n : ℕ) → locate r s k ≡ At at n → pairsShown r (part s at n) ≡ pairsAsked r s k
   unfolding pairsAsked
-  pairs-asked at n e = let q : at + n - at ≡ n = omega arith in rw (e, q)
+  pairs-asked at n e = rw e
 
   pub pairs-missing : (x : Refusal) → locate r s k ≡ Missing x → pairsAsked r s k ≡ refused x
   unfolding pairsAsked
   pairs-missing x e = rw e
 
 -- ---- the ways in which a listing call ends
+-- a listing call's contract, of what is asked said otherwise
+pub pairs-as : {whole asked : Or (List Receipt)} {ns ts ns′ ts′ : List ℕ} {a : Answer} → whole ≡ asked
+    → ListedPairs whole ns ts a ns′ ts′ → ListedPairs asked ns ts a ns′ ts′
+pairs-as e l = rw (← e) l
+
 module _ (whole : Or (List Receipt)) (ns ts : List ℕ) where
   abbrev room : ℕ
   room = min (length ns) (length ts)

@@ -13,7 +13,9 @@ use def_refusals::Answer;
 use def_refusals::Checked;
 use def_refusals::Refusal;
 use def_wire::Fields;
+use def_wire::Kind;
 use def_wire::Located;
+use def_wire::Ranged;
 use def_wire::Reading;
 use def_wire::ReceiptTime;
 
@@ -23,12 +25,6 @@ fn time_at(v: &[u8], at: usize) -> ReceiptTime
     ensures { λ t. ⌜ t .0 ≡ be32 (now (v .entry)) at ⌝ }
 {
     ReceiptTime(utils::u32_from_be_bytes(v, at))
-}
-
-fn lesser(a: usize, b: usize) -> usize
-    ensures { λ r. ⌜ r ≡ min a b ⌝ }
-{
-    if a <= b { a } else { b }
 }
 
 // How many times a view has from byte 12 on.
@@ -74,11 +70,11 @@ fn store(v: &[u8], first: u16, step: u16, n: usize, numbers: &mut [u16], times: 
 pub fn pairs(r: Reading, v: &[u8], numbers: &mut [u16], times: &mut [u32]) -> Answer
     ensures { λ a. ⌜ ListedPairs (pairsShown r (now (v .entry))) (now (numbers .entry)) (now (times .entry)) a (now (numbers .exit)) (now (times .exit)) ⌝ }
 {
-    match block::check(r, 3, v) {
+    match block::check(r, Kind::Spans(Ranged::Times), v) {
         Checked::Fine => {
             let f = block::fields_at(v);
-            let n = lesser(listable_of(r, f), times_count(v));
-            let room = lesser(numbers.len(), times.len());
+            let n = utils::lesser(listable_of(r, f), times_count(v));
+            let room = utils::lesser(numbers.len(), times.len());
             if room < n {
                 return Answer::Refused(Refusal::NoRoom(n, room));
             }
@@ -96,7 +92,7 @@ pub fn pairs_in(r: Reading, s: &[u8], k: usize, numbers: &mut [u16], times: &mut
     ensures { λ a. ⌜ ListedPairs (pairsAsked r (now (s .entry)) k) (now (numbers .entry)) (now (times .entry)) a (now (numbers .exit)) (now (times .exit)) ⌝ }
 {
     match xr::locate(r, s, k) {
-        Located::At(at, n) => pairs(r, &s[at..at + n], numbers, times),
+        Located::At(at, n) => pairs(r, utils::part(s, at, n), numbers, times),
         Located::Missing(x) => Answer::Refused(x),
     }
 }

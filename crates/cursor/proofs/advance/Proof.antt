@@ -19,20 +19,11 @@ fields-at-requires c κs = search needs
 range-of-requires : tie.Need-range-of-requires
 range-of-requires c κs = search needs
 
-lesser-requires : tie.Need-lesser-requires
-lesser-requires c κs = search needs
-
-sub-advance-words : tie.Need-sub-advance-words
-sub-advance-words c = search needs
-
-part-advance-words-start : tie.Need-part-advance-words-start
-part-advance-words-start c = search needs
-
-part-advance-words-end : tie.Need-part-advance-words-end
-part-advance-words-end c = search needs
+part-requires : tie.Need-part-requires
+part-requires c κs = search needs
 
 advance-words-requires : tie.Need-advance-words-requires
-advance-words-requires c κs = let r = c .before .before .before in rw (r .range-of .ensures) (range-fits (r .before .fields-at .result))
+advance-words-requires c κs = let r = c .before .before in rw (r .range-of .ensures) (range-fits (r .before .fields-at .result))
 
 enum-known-x : tie.Need-enum-known-x
 enum-known-x c = search needs
@@ -42,19 +33,19 @@ same-length c = search needs
 
 returns : tie.Need-returns
 returns c = let w = c .before .before in
-    let b = w .before .before .before in
-    let r = b .before in
+    let q = w .before .before in
+    let r = q .before in
     let k = r .before .before .before .before in
     let a = k .before .before .before .args in
     let g : r .range-of .result ≡ rangeOf (fieldsAt (a .v .now)) = r .range-of .ensures ∙ ap rangeOf (r .before .fields-at .ensures) in
-    stretched-fit (a .t) (a .v .now) (a .c) (a .budget) (a .out .now) (w .advance-words .result) _ (sym (k .check .ensures) ∙ r .before .before .enum-told .given .1)
-    (rw (← g, ← words-behind (a .v .now) (b .lesser .result) (b .lesser .ensures)) (w .advance-words .ensures))
+    stretched-fit (a .a) (a .v .now) (a .c) (a .budget) (a .out .now) (w .advance-words .result) _ (sym (k .check .ensures) ∙ r .before .before .enum-told .given .1)
+    (rw (← g, ← words-behind (a .v .now), ← q .part .ensures .0) (w .advance-words .ensures))
 
 returns-2 : tie.Need-returns-2
 returns-2 c = let x = c .before in
     let k = x .before .before in
     let a = k .before .before .before .args in
-    stretched-unfit (a .t) (a .v .now) (a .c) (a .budget) (a .out .now) (x .x .given .0 .0) (sym (k .check .ensures) ∙ x .x .given .1)
+    stretched-unfit (a .a) (a .v .now) (a .c) (a .budget) (a .out .now) (x .x .given .0 .0) (sym (k .check .ensures) ∙ x .x .given .1)
 
 pub advance-spec : {M : Type 1} → statement M
 advance-spec =
@@ -64,10 +55,7 @@ advance-spec =
     enum-told
     fields-at-requires
     range-of-requires
-    lesser-requires
-    sub-advance-words
-    part-advance-words-start
-    part-advance-words-end
+    part-requires
     advance-words-requires
     enum-known-x
     same-length

@@ -1,8 +1,9 @@
 -- `packet_receipt_time::pairs_in` meets its contract: the pairs of block k of a packet.
-use Rattle.packet_receipt_time.proofs.PairsAnswers.{pairs-asked, pairs-missing, pairs-refused}
-use Rattle.xr.proofs.WalkLaws.{located-within}
-use native.Mathlib.Omega.{arith}
-use mathlib.Core.Path.{sym, _∙_}
+use Rattle.packet_receipt_time.proofs.PairsAnswers.{pairs-asked, pairs-missing, pairs-refused, pairs-as}
+use Rattle.def_questions.specs.Questions.{pairsShown}
+use Prim.Native.Nat.{ℕ}
+use mathlib.Core.List.{List}
+use mathlib.Core.Path.{sym, ap, _∙_}
 use borrow.Author.Needs.{needs}
 use Rattle.packet_receipt_time.proofs.pairs_in.Statement.{statement}
 use Rattle.packet_receipt_time.proofs.pairs_in.Tie as tie
@@ -13,23 +14,8 @@ locate-requires c κs = search needs
 enum-known-at : tie.Need-enum-known-at
 enum-known-at c = search needs
 
-add-pairs : tie.Need-add-pairs
-add-pairs c = let p = c .before in
-    let l = p .before .before in
-    let a = l .before .before .before .before .args in
-    omega (arith, located-within (a .r) (a .s .now) (a .k) (p .at .given .0 .0) (p .at .given .0 .1 .0) (sym (l .locate .ensures) ∙ p .at .given .1) .end)
-
-sub-pairs : tie.Need-sub-pairs
-sub-pairs c = search needs
-
-part-pairs-start : tie.Need-part-pairs-start
-part-pairs-start c = search needs
-
-part-pairs-end : tie.Need-part-pairs-end
-part-pairs-end c = let p = c .before in
-    let l = p .before .before in
-    let a = l .before .before .before .before .args in
-    omega (arith, located-within (a .r) (a .s .now) (a .k) (p .at .given .0 .0) (p .at .given .0 .1 .0) (sym (l .locate .ensures) ∙ p .at .given .1) .end)
+part-requires : tie.Need-part-requires
+part-requires c κs = search needs
 
 pairs-requires : tie.Need-pairs-requires
 pairs-requires c κs = search needs
@@ -45,16 +31,21 @@ same-length-2 c = search needs
 
 returns : tie.Need-returns
 returns c = let e = c .before .before .before .before in
-    let p = e .before .before .before .before .before in
+    let q = e .before .before .before in
+    let p = q .before .before in
     let l = p .before .before in
     let a = l .before .before .before .before .args in
-    rw (pairs-asked (a .r) (a .s .now) (a .k) (p .at .given .0 .0) (p .at .given .0 .1 .0) (sym (l .locate .ensures) ∙ p .at .given .1)) (e .pairs .ensures)
+    pairs-as
+    (ap (λ (v : List ℕ). pairsShown (a .r) v) (q .part .ensures .0)
+    ∙ pairs-asked (a .r) (a .s .now) (a .k) (p .at .given .0 .0) (p .at .given .0 .1 .0) (sym (l .locate .ensures) ∙ p .at .given .1))
+    (e .pairs .ensures)
 
 returns-2 : tie.Need-returns-2
 returns-2 c = let p = c .before in
     let l = p .before .before in
     let a = l .before .before .before .before .args in
-    pairs-refused _ (a .numbers .now) (a .times .now) (p .x .given .0 .0) (pairs-missing (a .r) (a .s .now) (a .k) (p .x .given .0 .0) (sym (l .locate .ensures) ∙ p .x .given .1))
+    pairs-refused _ (a .numbers .now) (a .times .now) (p .x .given .0 .0)
+    (pairs-missing (a .r) (a .s .now) (a .k) (p .x .given .0 .0) (sym (l .locate .ensures) ∙ p .x .given .1))
 
 pub pairs-in-spec : {M : Type 1} → statement M
 pairs-in-spec =
@@ -62,10 +53,7 @@ pairs-in-spec =
     (tie.spec
     locate-requires
     enum-known-at
-    add-pairs
-    sub-pairs
-    part-pairs-start
-    part-pairs-end
+    part-requires
     pairs-requires
     enum-known-x
     same-length

@@ -28,9 +28,10 @@ part-result-end c = search needs
 returns : tie.Need-returns
 returns c = let m = c .before in
     let l = m .before in
-    let a = l .before .before .args in
-    (part-cut (a .s .now) (a .at) (l .lesser .result) (l .lesser .ensures) (a .n) (m .lesser2 .result) (m .lesser2 .ensures),
-    part-start (a .s .now) (a .at) (l .lesser .result) (l .lesser .ensures) (a .s .ptr))
+    let a = l .before .before .args in (
+      part-cut (a .s .now) (a .at) (l .lesser .result) (l .lesser .ensures) (a .n) (m .lesser2 .result) (m .lesser2 .ensures),
+      part-start (a .s .now) (a .at) (l .lesser .result) (l .lesser .ensures) (a .s .ptr),
+    )
 
 pub part-spec : {M : Type 1} → statement M
 part-spec =

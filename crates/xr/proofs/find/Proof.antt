@@ -22,7 +22,7 @@ at-place-requires c κs = let n = c .before .before in
     let e = w .before .before in
     let a = e .args in
     let t = walk-within (a .s .now) (a .stop) (length (a .s .now)) 0 (n .n .given .0 .0) (a .k)
-        (rw (place-zero (a .s .now)) (sym (w .walk .ensures .counted) ∙ n .n .given .1)) (omega arith) (c .if1 .taken) in
+    (rw (place-zero (a .s .now)) (sym (w .walk .ensures .counted) ∙ n .n .given .1)) (omega arith) (c .if1 .taken) in
     omega (arith, t, e .pre .0, w .walk .ensures .placed (n .n .given .0 .0) (n .n .given .1) (c .if1 .taken))
 
 returns : tie.Need-returns

@@ -26,17 +26,19 @@ returns c = let a = c .before .before in
     let l = a .before .before in
     let i = l .before .before .args in
     let e = sym (l .locate .ensures) ∙ a .at .given .1 in
-    let w = located-within (i .r) (i .s .now) (i .k) (a .at .given .0 .0) (a .at .given .0 .1 .0) e in
-    (c .part .ensures .0 ∙ view-bytes (i .s .now) (a .at .given .0 .0) (a .at .given .0 .1 .0) _ e,
-    c .part .ensures .1 ∙ view-start (i .s .ptr) (i .s .now) (a .at .given .0 .0) (a .at .given .0 .1 .0) _ e (omega (arith, w .end)))
+    let w = located-within (i .r) (i .s .now) (i .k) (a .at .given .0 .0) (a .at .given .0 .1 .0) e in (
+      c .part .ensures .0 ∙ view-bytes (i .s .now) (a .at .given .0 .0) (a .at .given .0 .1 .0) _ e,
+      c .part .ensures .1 ∙ view-start (i .s .ptr) (i .s .now) (a .at .given .0 .0) (a .at .given .0 .1 .0) _ e (omega (arith, w .end)),
+    )
 
 returns-2 : tie.Need-returns-2
 returns-2 c = let a = c .before in
     let l = a .before .before in
     let i = l .before .before .args in
-    let e = sym (l .locate .ensures) ∙ a .enum-told .given .1 in
-    (c .part2 .ensures .0 ∙ view-none (i .s .now) _ (a .enum-told .given .0 .0) e,
-    c .part2 .ensures .1 ∙ view-none-start (i .s .ptr) (i .s .now) _ (a .enum-told .given .0 .0) e)
+    let e = sym (l .locate .ensures) ∙ a .enum-told .given .1 in (
+      c .part2 .ensures .0 ∙ view-none (i .s .now) _ (a .enum-told .given .0 .0) e,
+      c .part2 .ensures .1 ∙ view-none-start (i .s .ptr) (i .s .now) _ (a .enum-told .given .0 .0) e,
+    )
 
 pub view-spec : {M : Type 1} → statement M
 view-spec =
