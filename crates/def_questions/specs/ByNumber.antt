@@ -37,8 +37,12 @@ onRanged NoRange f other = other
 unfoldable pub wordsBy : Reading → List ℕ → ℕ → ℕ → Or (List ℕ)
 wordsBy r s k t = onShown (viewOf r s k) (λ v. onRle (rleOf t) (λ a. wordsShown r a v) (refused (notServed v)))
 
+-- of a view
+abbrev pub numbersViewBy : Reading → ℕ → List ℕ → Or (List ℕ)
+numbersViewBy r t v = onRle (rleOf t) (λ a. numbersShown r a v) (refused (notServed v))
+
 unfoldable pub numbersBy : Reading → List ℕ → ℕ → ℕ → Or (List ℕ)
-numbersBy r s k t = onShown (viewOf r s k) (λ v. onRle (rleOf t) (λ a. numbersShown r a v) (refused (notServed v)))
+numbersBy r s k t = onShown (viewOf r s k) (λ v. numbersViewBy r t v)
 
 unfoldable pub fieldsBy : Reading → List ℕ → ℕ → ℕ → FieldsOr
 fieldsBy r s k t = onViewFields (viewOf r s k) (λ v. onRanged (rangedOf t) (λ g. fieldsOf r g v) (NoneOf (notServed v)))

@@ -14,10 +14,10 @@ use Rattle.def_standard.specs.declared.Echo.{Echo}
 use Rattle.def_questions.specs.Questions.{ListedPairs, ListedEntries}
 use Rattle.def_cursor.specs.declared.Cursor.{Cursor}
 use Rattle.def_cursor.specs.declared.Advanced.{Advanced}
-use Rattle.def_cursor.specs.Cursor.{StretchedIn}
+use Rattle.def_cursor.specs.Cursor.{StretchedBy}
 use Rattle.xport.specs.declared.Flat.{Flat}
 use Rattle.xport.specs.declared.FlatStretch.{FlatStretch}
-use Rattle.xport.specs.Flat.{readingOf, kindOf, flatRefusal, flatOf, flatStretch, FlatListed, FlatPairs, FlatEntries, FlatStretched}
+use Rattle.xport.specs.Flat.{readingOf, chunkAsked, flatRefusal, flatOf, flatStretch, FlatListed, FlatPairs, FlatEntries, FlatStretched}
 
 pub reading-standard : (r : ℕ) → r ≡ 0 → Standard ≡ readingOf r
 unfolding readingOf
@@ -27,21 +27,21 @@ pub reading-crate : (r : ℕ) → (r ≡ 0 → ⊥) → Crate ≡ readingOf r
 unfolding readingOf
 reading-crate r n = simp (ne-eqb _ _ n)
 
-pub kind-null : (k value : ℕ) → k ≡ 0 → Null ≡ kindOf k value
-unfolding kindOf
+pub kind-null : (k value : ℕ) → k ≡ 0 → Null ≡ chunkAsked k value
+unfolding chunkAsked
 kind-null k value e = simp (eq-eqb _ _ e)
 
 module _ (k value : ℕ) (n : k ≡ 0 → ⊥) where
-  pub kind-skip : k ≡ 1 → Skip value ≡ kindOf k value
-  unfolding kindOf
+  pub kind-skip : k ≡ 1 → Skip value ≡ chunkAsked k value
+  unfolding chunkAsked
   kind-skip e = simp (ne-eqb _ _ n, eq-eqb _ _ e)
 
-  pub kind-run : (k ≡ 1 → ⊥) → k ≡ 2 → Run value ≡ kindOf k value
-  unfolding kindOf
+  pub kind-run : (k ≡ 1 → ⊥) → k ≡ 2 → Run value ≡ chunkAsked k value
+  unfolding chunkAsked
   kind-run m e = simp (ne-eqb _ _ n, ne-eqb _ _ m, eq-eqb _ _ e)
 
-  pub kind-vector : (k ≡ 1 → ⊥) → (k ≡ 2 → ⊥) → Vector value ≡ kindOf k value
-  unfolding kindOf
+  pub kind-vector : (k ≡ 1 → ⊥) → (k ≡ 2 → ⊥) → Vector value ≡ chunkAsked k value
+  unfolding chunkAsked
   kind-vector m o = simp (ne-eqb _ _ n, ne-eqb _ _ m, ne-eqb _ _ o)
 
 -- a listing call, asked of what the question comes to, its answer made flat
@@ -65,5 +65,5 @@ flat-turned-away {whole} {asked} {out} {f} x e w h = flat-listed e (turned-away 
 
 -- a cursor's call, its answer made flat
 pub flat-stretched : {s : List ℕ} {k t : ℕ} {c : Cursor} {budget : ℕ} {out out′ : List ℕ} {a : Advanced} {f : FlatStretch}
-    → StretchedIn s k t c budget out a out′ → f ≡ flatStretch a → FlatStretched s k t c budget out f out′
+    → StretchedBy s k t c budget out a out′ → f ≡ flatStretch a → FlatStretched s k t c budget out f out′
 flat-stretched l h = record { answer = h ∙ ap flatStretch (l .answer); filled = l .filled }

@@ -33,7 +33,7 @@ use Rattle.def_cursor.specs.declared.Cursor.{Cursor}
 use Rattle.def_cursor.specs.declared.Stretch.{Stretch}
 use Rattle.def_cursor.specs.declared.Advanced.{Advanced}
 use Rattle.def_cursor.specs.declared.Advanced.the-variants.{Moved, Stuck}
-use Rattle.def_cursor.specs.Cursor.{start, advanceOf, stretchFilled, onViewAdvanced, onViewFilled}
+use Rattle.def_cursor.specs.Cursor.{start, advanceBy, filledBy, onViewAdvanced, onViewFilled}
 use Rattle.xport.specs.declared.Flat.{Flat}
 use Rattle.xport.specs.declared.FlatStretch.{FlatStretch}
 use Rattle.xport.specs.declared.FlatFields.{FlatFields}
@@ -101,28 +101,28 @@ flatStretch (Moved t) = stretchRow (found 0 0) t
 flatStretch (Stuck x) = stretchRow (flatRefusal x) noStretch
 
 -- a chunk word's kind by a number: 0 Null, 1 a run of zeros, 2 a run of ones, anything else a vector
-unfoldable pub kindOf : ℕ → ℕ → Chunk
-kindOf k value = cond (eqb k 0) Null (cond (eqb k 1) (Skip value) (cond (eqb k 2) (Run value) (Vector value)))
+unfoldable pub chunkAsked : ℕ → ℕ → Chunk
+chunkAsked k value = cond (eqb k 0) Null (cond (eqb k 1) (Skip value) (cond (eqb k 2) (Run value) (Vector value)))
 
--- the contract of a call that lists into one lent list: refusals' `Listed`, its answer flat
+-- the contract of a call that lists into one lent list: def_refusals' `Listed`, its answer flat
 pub record FlatListed (whole : Or (List ℕ)) (out : List ℕ) (r : Flat) (out′ : List ℕ) : Type 0 where
   pub answer : r ≡ flatOf (answerOf whole (length out))
   pub filled : out′ ≡ filledOf whole (length out) out
 
--- readings' `ListedPairs`
+-- def_questions' `ListedPairs`
 pub record FlatPairs (whole : Or (List Receipt)) (ns ts : List ℕ) (r : Flat) (ns′ ts′ : List ℕ) : Type 0 where
   pub answer : r ≡ flatOf (answerOf whole (min (length ns) (length ts)))
   pub numbers : ns′ ≡ filledOf (each (λ x. x .number) whole) (min (length ns) (length ts)) ns
   pub times : ts′ ≡ filledOf (each (λ x. x .time .0) whole) (min (length ns) (length ts)) ts
 
--- readings' `ListedEntries`
+-- def_questions' `ListedEntries`
 pub record FlatEntries (whole : Or (List Echo)) (ss ls ds : List ℕ) (r : Flat) (ss′ ls′ ds′ : List ℕ) : Type 0 where
   pub answer : r ≡ flatOf (answerOf whole (least3 ss ls ds))
   pub ssrcs : ss′ ≡ filledOf (each (λ x. x .ssrc) whole) (least3 ss ls ds) ss
   pub lasts : ls′ ≡ filledOf (each (λ x. x .last .0) whole) (least3 ss ls ds) ls
   pub delays : ds′ ≡ filledOf (each (λ x. x .delay .0) whole) (least3 ss ls ds) ds
 
--- cursors' `StretchedIn`
+-- def_cursor's `StretchedBy`
 pub record FlatStretched (s : List ℕ) (k t : ℕ) (c : Cursor) (budget : ℕ) (out : List ℕ) (r : FlatStretch) (out′ : List ℕ) : Type 0 where
-  pub answer : r ≡ flatStretch (onViewAdvanced (viewOf Standard s k) (λ v. advanceOf t v c budget (length out)))
-  pub filled : out′ ≡ onViewFilled (viewOf Standard s k) (λ v. stretchFilled t v c budget out) out
+  pub answer : r ≡ flatStretch (onViewAdvanced (viewOf Standard s k) (λ v. advanceBy t v c budget (length out)))
+  pub filled : out′ ≡ onViewFilled (viewOf Standard s k) (λ v. filledBy t v c budget out) out

@@ -5,9 +5,9 @@ ghost use Rattle.def_refusals.specs.Answers.{Listed};
 ghost use Rattle.def_wire.specs.Packet.{countOf, locate};
 ghost use Rattle.def_standard.specs.Chunks.{wordBytes};
 ghost use Rattle.def_cursor.specs.Cursor.{cursor as here};
-ghost use Rattle.def_questions.specs.Questions.{numbersShown};
-ghost use Rattle.def_questions.specs.Packets.{fieldsAsked, timeAsked, numbersAsked, wordsAsked, pairsAsked, entriesAsked};
-ghost use Rattle.xport.specs.Flat.{readingOf, flatRefusal, flatOf, flatLocated, flatFields, flatTime, flatStretch, kindOf, FlatListed, FlatPairs, FlatEntries, FlatStretched};
+ghost use Rattle.def_questions.specs.Packets.{timeAsked, pairsAsked, entriesAsked};
+ghost use Rattle.def_questions.specs.ByNumber.{fieldsBy, numbersBy, numbersViewBy, wordsBy};
+ghost use Rattle.xport.specs.Flat.{readingOf, flatRefusal, flatOf, flatLocated, flatFields, flatTime, flatStretch, chunkAsked, FlatListed, FlatPairs, FlatEntries, FlatStretched};
 use def_cursor::Advanced;
 use def_cursor::Cursor;
 use def_refusals::Answer;
@@ -63,7 +63,7 @@ fn reading(r: u8) -> Reading
 }
 
 fn kind(k: u8, value: u32) -> Chunk
-    ensures { λ c. ⌜ c ≡ kindOf k value ⌝ }
+    ensures { λ c. ⌜ c ≡ chunkAsked k value ⌝ }
 {
     if k == 0 {
         return Chunk::Null;
@@ -207,9 +207,9 @@ pub extern "C" fn xr_locate(r: u8, packet: &[u8], k: usize) -> Flat
 // The fields of block k, asked as type t (1, 2 or 3): 1 to 6, 9, 10, 7, 8.
 #[no_mangle]
 pub extern "C" fn xr_fields(r: u8, packet: &[u8], k: usize, t: u8) -> FlatFields
-    ensures { λ a. ⌜ a ≡ flatFields (fieldsAsked (readingOf r) (now (packet .entry)) k t) ⌝ }
+    ensures { λ a. ⌜ a ≡ flatFields (fieldsBy (readingOf r) (now (packet .entry)) k t) ⌝ }
 {
-    fields(block::fields_in(reading(r), packet, k, t))
+    fields(by_number::fields(reading(r), packet, k, t))
 }
 
 // The time of block k, of type 4: 1 to 6, 9, 10, 7.
@@ -220,18 +220,14 @@ pub extern "C" fn xr_time(r: u8, packet: &[u8], k: usize) -> Flat
     time(block::time_in(reading(r), packet, k))
 }
 
-// The numbers of block k, asked as type t (1 or 2): 1 to 6, 9, 10, 7, 11. It is numbers::numbers_in; each arm makes its own flat answer, so that
-// what the header refuses comes out at once, and no refusal is copied through memory.
+// The numbers of block k, asked as type t (1 or 2): 1 to 6, 9, 10, 7, 11. What the header refuses comes out at once.
 #[no_mangle]
 pub extern "C" fn xr_numbers(r: u8, packet: &[u8], k: usize, t: u8, out: &mut [u16]) -> Flat
-    ensures { λ a. ⌜ FlatListed (numbersAsked (readingOf r) (now (packet .entry)) k t) (now (out .entry)) a (now (out .exit)) ⌝ }
+    ensures { λ a. ⌜ FlatListed (numbersBy (readingOf r) (now (packet .entry)) k t) (now (out .entry)) a (now (out .exit)) ⌝ }
 {
     let q = reading(r);
     match xr::header(q, packet) {
-        Answer::Done(stop) => match xr::find(q, packet, stop, k) {
-            Located::At(at, n) => answer(numbers::numbers(q, t, &packet[at..at + n], out)),
-            Located::Missing(x) => refusal(x),
-        },
+        Answer::Done(_) => answer(by_number::numbers(q, packet, k, t, out)),
         Answer::Refused(x) => refusal(x),
     }
 }
@@ -239,17 +235,17 @@ pub extern "C" fn xr_numbers(r: u8, packet: &[u8], k: usize, t: u8, out: &mut [u
 // The numbers of a block's view, as xr_locate says where it lies: 10, 7, 11.
 #[no_mangle]
 pub extern "C" fn xr_numbers_view(r: u8, t: u8, view: &[u8], out: &mut [u16]) -> Flat
-    ensures { λ a. ⌜ FlatListed (numbersShown (readingOf r) t (now (view .entry))) (now (out .entry)) a (now (out .exit)) ⌝ }
+    ensures { λ a. ⌜ FlatListed (numbersViewBy (readingOf r) t (now (view .entry))) (now (out .entry)) a (now (out .exit)) ⌝ }
 {
-    answer(numbers::numbers(reading(r), t, view, out))
+    answer(by_number::numbers_view(reading(r), t, view, out))
 }
 
 // The chunk words of block k, asked as type t: 1 to 6, 9, 10, 7, 11.
 #[no_mangle]
 pub extern "C" fn xr_words(r: u8, packet: &[u8], k: usize, t: u8, out: &mut [u16]) -> Flat
-    ensures { λ a. ⌜ FlatListed (wordsAsked (readingOf r) (now (packet .entry)) k t) (now (out .entry)) a (now (out .exit)) ⌝ }
+    ensures { λ a. ⌜ FlatListed (wordsBy (readingOf r) (now (packet .entry)) k t) (now (out .entry)) a (now (out .exit)) ⌝ }
 {
-    answer(numbers::words_in(reading(r), packet, k, t, out))
+    answer(by_number::words(reading(r), packet, k, t, out))
 }
 
 // The pairs of block k, of type 3, into two lists side by side: 1 to 6, 9, 10, 7, 11.
@@ -284,7 +280,7 @@ pub extern "C" fn xr_entries(
 // Makes one chunk word of a kind (0 Null, 1 a run of zeros, 2 a run of ones, else a vector), big-endian: 13, 11.
 #[no_mangle]
 pub extern "C" fn xr_chunk(k: u8, value: u32, out: &mut [u8]) -> Flat
-    ensures { λ a. ⌜ FlatListed (wordBytes (kindOf k value)) (now (out .entry)) a (now (out .exit)) ⌝ }
+    ensures { λ a. ⌜ FlatListed (wordBytes (chunkAsked k value)) (now (out .entry)) a (now (out .exit)) ⌝ }
 {
     answer(chunk::write_chunk(kind(k, value), out))
 }
@@ -308,5 +304,5 @@ pub extern "C" fn xr_cursor(
         place,
         position,
     };
-    stretch(cursor::advance_in(packet, k, t, c, budget, out))
+    stretch(by_number::advance(packet, k, t, c, budget, out))
 }

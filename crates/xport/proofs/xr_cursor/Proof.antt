@@ -4,8 +4,8 @@ use borrow.Author.Needs.{needs}
 use Rattle.xport.proofs.xr_cursor.Statement.{statement}
 use Rattle.xport.proofs.xr_cursor.Tie as tie
 
-advance-in-requires : tie.Need-advance-in-requires
-advance-in-requires c κs = search needs
+advance-requires : tie.Need-advance-requires
+advance-requires c κs = search needs
 
 stretch-requires : tie.Need-stretch-requires
 stretch-requires c κs = search needs
@@ -14,7 +14,7 @@ same-length : tie.Need-same-length
 same-length c = search needs
 
 returns : tie.Need-returns
-returns c = flat-stretched (c .before .before .before .advance-in .ensures) (c .stretch .ensures)
+returns c = flat-stretched (c .before .before .before .advance .ensures) (c .stretch .ensures)
 
 pub xr-cursor-spec : {M : Type 1} → statement M
-xr-cursor-spec = tie.close (tie.spec advance-in-requires stretch-requires same-length returns)
+xr-cursor-spec = tie.close (tie.spec advance-requires stretch-requires same-length returns)

@@ -1,6 +1,6 @@
 -- `xport::xr_numbers_view` meets its contract: the numbers of a block's view, as xr_locate says where it lies.
-use Rattle.def_questions.specs.Questions.{numbersShown}
 use Rattle.xport.proofs.FlatLaws.{flat-listed}
+use Rattle.def_questions.specs.ByNumber.{numbersViewBy}
 use mathlib.Core.Path.{ap}
 use borrow.Author.Needs.{needs}
 use Rattle.xport.proofs.xr_numbers_view.Statement.{statement}
@@ -9,8 +9,8 @@ use Rattle.xport.proofs.xr_numbers_view.Tie as tie
 reading-requires : tie.Need-reading-requires
 reading-requires c κs = search needs
 
-numbers-requires : tie.Need-numbers-requires
-numbers-requires c κs = search needs
+numbers-view-requires : tie.Need-numbers-view-requires
+numbers-view-requires c κs = search needs
 
 answer-requires : tie.Need-answer-requires
 answer-requires c κs = search needs
@@ -22,8 +22,8 @@ returns : tie.Need-returns
 returns c = let n = c .before .before .before in
     let q = n .before .before in
     let a = q .before .before .before .args in
-    flat-listed (ap (λ r. numbersShown r (a .t) (a .view .now)) (q .reading .ensures)) (n .numbers .ensures) (c .answer .ensures)
+    flat-listed (ap (λ r. numbersViewBy r (a .t) (a .view .now)) (q .reading .ensures)) (n .numbers-view .ensures) (c .answer .ensures)
 
 pub xr-numbers-view-spec : {M : Type 1} → statement M
 xr-numbers-view-spec =
-    tie.close (tie.spec reading-requires numbers-requires answer-requires same-length returns)
+    tie.close (tie.spec reading-requires numbers-view-requires answer-requires same-length returns)

@@ -1,6 +1,6 @@
 -- `xport::xr_words` meets its contract: the chunk words of block k, asked as type t.
-use Rattle.def_questions.specs.Packets.{wordsAsked}
 use Rattle.xport.proofs.FlatLaws.{flat-listed}
+use Rattle.def_questions.specs.ByNumber.{wordsBy}
 use mathlib.Core.Path.{ap}
 use borrow.Author.Needs.{needs}
 use Rattle.xport.proofs.xr_words.Statement.{statement}
@@ -9,8 +9,8 @@ use Rattle.xport.proofs.xr_words.Tie as tie
 reading-requires : tie.Need-reading-requires
 reading-requires c κs = search needs
 
-words-in-requires : tie.Need-words-in-requires
-words-in-requires c κs = search needs
+words-requires : tie.Need-words-requires
+words-requires c κs = search needs
 
 answer-requires : tie.Need-answer-requires
 answer-requires c κs = search needs
@@ -22,8 +22,8 @@ returns : tie.Need-returns
 returns c = let n = c .before .before .before in
     let q = n .before .before in
     let a = q .before .before .before .args in
-    flat-listed (ap (λ r. wordsAsked r (a .packet .now) (a .k) (a .t)) (q .reading .ensures)) (n .words-in .ensures) (c .answer .ensures)
+    flat-listed (ap (λ r. wordsBy r (a .packet .now) (a .k) (a .t)) (q .reading .ensures)) (n .words .ensures) (c .answer .ensures)
 
 pub xr-words-spec : {M : Type 1} → statement M
 xr-words-spec =
-    tie.close (tie.spec reading-requires words-in-requires answer-requires same-length returns)
+    tie.close (tie.spec reading-requires words-requires answer-requires same-length returns)

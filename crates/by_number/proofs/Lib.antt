@@ -1,0 +1,3 @@
+-- ByLaws (each way in which a question by a number ends), Unique (no second answer).
+pub mod ByLaws
+pub mod Unique

@@ -1,0 +1,51 @@
+-- `by_number::advance` meets its contract: at most budget steps of the number cursor in block k, asked by a number.
+use Rattle.by_number.proofs.ByLaws.{advance-served, advance-other}
+use mathlib.Core.Path.{sym, _∙_}
+use borrow.Author.Needs.{needs}
+use Rattle.by_number.proofs.advance.Statement.{statement}
+use Rattle.by_number.proofs.advance.Tie as tie
+
+rle-of-requires : tie.Need-rle-of-requires
+rle-of-requires c κs = search needs
+
+enum-known-a : tie.Need-enum-known-a
+enum-known-a c = search needs
+
+advance-in-requires : tie.Need-advance-in-requires
+advance-in-requires c κs = search needs
+
+enum-told : tie.Need-enum-told
+enum-told c = search needs
+
+other-requires : tie.Need-other-requires
+other-requires c κs = search needs
+
+same-length : tie.Need-same-length
+same-length c = search needs
+
+returns : tie.Need-returns
+returns c = let n = c .before .before in
+    let g = n .before .before .before in
+    let t = g .before .before in
+    let a = t .before .before .before .args in
+    advance-served (a .s .now) (a .k) (a .t) (a .c) (a .budget) (a .out .now) (g .a .given .0 .0) (n .advance-in .result) _
+    (sym (t .rle-of .ensures) ∙ g .a .given .1) (n .advance-in .ensures)
+
+returns-2 : tie.Need-returns-2
+returns-2 c = let e = c .before in
+    let t = e .before .before in
+    let a = t .before .before .before .args in
+    rw (c .other .ensures) (advance-other (a .s .now) (a .k) (a .t) (a .c) (a .budget) (a .out .now) (sym (t .rle-of .ensures) ∙ e .enum-told .given .1))
+
+pub advance-spec : {M : Type 1} → statement M
+advance-spec =
+    tie.close
+    (tie.spec
+    rle-of-requires
+    enum-known-a
+    advance-in-requires
+    enum-told
+    other-requires
+    same-length
+    returns
+    returns-2)

@@ -1,0 +1,46 @@
+-- `by_number::fields` meets its contract: block k's fields, asked by a number.
+use Rattle.by_number.proofs.ByLaws.{fields-served, fields-other}
+use Rattle.def_wire.specs.declared.FieldsOr.the-variants.{NoneOf}
+use mathlib.Core.Path.{sym, ap, _∙_}
+use borrow.Author.Needs.{needs}
+use Rattle.by_number.proofs.fields.Statement.{statement}
+use Rattle.by_number.proofs.fields.Tie as tie
+
+ranged-of-requires : tie.Need-ranged-of-requires
+ranged-of-requires c κs = search needs
+
+enum-known-g : tie.Need-enum-known-g
+enum-known-g c = search needs
+
+fields-in-requires : tie.Need-fields-in-requires
+fields-in-requires c κs = search needs
+
+enum-told : tie.Need-enum-told
+enum-told c = search needs
+
+other-requires : tie.Need-other-requires
+other-requires c κs = search needs
+
+returns : tie.Need-returns
+returns c = let g = c .before .before in
+    let t = g .before .before in
+    let a = t .before .before .args in
+    c .fields-in .ensures ∙ fields-served (a .r) (a .s .now) (a .k) (a .t) (g .g .given .0 .0) (sym (t .ranged-of .ensures) ∙ g .g .given .1)
+
+returns-2 : tie.Need-returns-2
+returns-2 c = let e = c .before in
+    let t = e .before .before in
+    let a = t .before .before .args in
+    ap NoneOf (c .other .ensures) ∙ fields-other (a .r) (a .s .now) (a .k) (a .t) (sym (t .ranged-of .ensures) ∙ e .enum-told .given .1)
+
+pub fields-spec : {M : Type 1} → statement M
+fields-spec =
+    tie.close
+    (tie.spec
+    ranged-of-requires
+    enum-known-g
+    fields-in-requires
+    enum-told
+    other-requires
+    returns
+    returns-2)
