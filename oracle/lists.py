@@ -4,7 +4,7 @@ word     16 bits; covers(word) positions, whose values are values(word), in orde
 p        a position, counted from 0 through the words; q a place in one word
 room     how many items fit; None is room for anything
 """
-from readings import CRATE, STANDARD, be, find_as, question, range_of, refuse, view_of
+from readings import CRATE, RLE, STANDARD, be, find_as, question, range_of, refuse, view_of
 
 NUMBERS = 65536     # how many sequence numbers there are
 
@@ -154,25 +154,25 @@ def into(items, count, room):
 
 @question
 def words(packet, reading, index, kind, room=None):
-    items = words_of(find_as(packet, reading, index, kind))
+    items = words_of(find_as(packet, reading, index, kind, RLE))
     return into(items, len(items), room)
 
 
 @question
 def numbers(packet, reading, index, kind, room=None):
-    block = find_as(packet, reading, index, kind)
+    block = find_as(packet, reading, index, kind, RLE)
     return into(numbers_of(block), count_of(block), room)
 
 
 @question
 def pairs(packet, reading, index, room=None):
-    items = pairs_of(find_as(packet, reading, index, 3))
+    items = pairs_of(find_as(packet, reading, index, 3, (3,)))
     return into(items, len(items), room)
 
 
 @question
 def entries(packet, reading, index, room=None):
-    items = entries_of(find_as(packet, reading, index, 5))
+    items = entries_of(find_as(packet, reading, index, 5, (5,)))
     return into(items, len(items), room)
 
 
@@ -181,7 +181,7 @@ def entries(packet, reading, index, room=None):
 @question
 def cursor(packet, index, kind, word, place, position, budget, room):
     """(steps taken, word, place, position, numbers)."""
-    block = find_as(packet, STANDARD, index, kind)
+    block = find_as(packet, STANDARD, index, kind, RLE)
     own, r = words_of(block), range_of(block)
     places = [max(1, covers(w)) for w in own] + [1]  # the end cursor has place 0
     legal = word < len(places) and place < places[word] and position <= NUMBERS

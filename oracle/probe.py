@@ -19,10 +19,18 @@ ROOT = os.path.dirname(os.path.dirname(os.path.abspath(__file__)))
 LENT = 16384        # the most room that a list is lent
 LONGEST = 300000    # the longest payload, in bytes
 
-DUMP, LIST, FIELDS, CURSOR, WORD, PARSE, WORDS, VIEW = 1, 2, 3, 4, 7, 8, 9, 11
+DUMP, LIST, FIELDS, CURSOR, WORD, PARSE, WORDS, VIEW, NUMBERS = 1, 2, 3, 4, 7, 8, 9, 11, 14
 FORMS = {DUMP: "<", LIST: "<BIBI", FIELDS: "<BIB", CURSOR: "<IBIIIII", WORD: "<BII", PARSE: "<B",
-         WORDS: "<BIBI", VIEW: "<BI"}
-TYPES = {LIST: (1, 2, 3, 5), FIELDS: (1, 2, 3, 4), CURSOR: (1, 2), WORDS: (1, 2)}  # that may be asked
+         WORDS: "<BIBI", VIEW: "<BI", NUMBERS: "<BIBI"}
+# For each kind with an asked type: the types that it serves. LIST takes no other; of the others a byte that
+# they do not serve is refused as 10 (FIELDS asks the time for 4).
+TYPES = {LIST: (1, 2, 3, 5), FIELDS: (1, 2, 3, 4), CURSOR: (1, 2), WORDS: (1, 2), NUMBERS: (1, 2)}
+BYTES = (0, 1, 2, 3, 4, 5, 6, 7, 207, 255)
+
+
+def asked(kind):
+    """Types that a kind may be asked for."""
+    return TYPES[LIST] if kind == LIST else BYTES
 
 
 def request(kind, *given, packet=b""):
@@ -68,10 +76,9 @@ def answer(kind, payload):
         return None
     size = struct.calcsize(FORMS[kind])
     given, packet = struct.unpack_from(FORMS[kind], payload), payload[size:]
-    if kind in (LIST, FIELDS, PARSE, WORDS, VIEW) and given[0] > 1:
+    if kind in (LIST, FIELDS, PARSE, WORDS, VIEW, NUMBERS) and given[0] > 1:
         return None
-    asked = given[1 if kind == CURSOR else 2] if kind in TYPES else None
-    if kind in TYPES and asked not in TYPES[kind]:
+    if kind == LIST and given[2] not in TYPES[LIST]:
         return None
     return ANSWERS[kind](given, packet)
 
@@ -94,7 +101,13 @@ def list_answer(given, packet):
         return told(pairs(packet, reading, block, room), lambda found: listed("pairs", found))
     if asked == 5:
         return told(entries(packet, reading, block, room), lambda found: listed("entries", found))
-    return told(numbers(packet, reading, block, asked, room), lambda found: listed("numbers", found))
+    return numbers_answer(given, packet)
+
+
+def numbers_answer(given, packet):
+    reading, block, asked, room = given
+    return told(numbers(packet, reading, block, asked, min(room, LENT)),
+                lambda found: listed("numbers", found))
 
 
 def words_answer(given, packet):
@@ -135,7 +148,7 @@ def view_answer(given, packet):
 
 ANSWERS = {DUMP: lambda _, packet: dump(packet), LIST: list_answer, FIELDS: fields_answer,
            CURSOR: cursor_answer, WORD: word_answer, PARSE: parse_answer, WORDS: words_answer,
-           VIEW: view_answer}
+           VIEW: view_answer, NUMBERS: numbers_answer}
 
 
 def run_answer(data):

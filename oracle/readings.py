@@ -12,6 +12,7 @@ from collections import namedtuple
 from functools import wraps
 
 STANDARD, CRATE = 0, 1
+RLE, RANGED = (1, 2), (1, 2, 3)     # types that are asked for numbers and words, for fields
 
 Block = namedtuple("Block", "reading packet at length kind left")
 Range = namedtuple("Range", "ssrc begin end thinning")
@@ -91,10 +92,10 @@ def find(packet, reading, index):
     return blocks[index]
 
 
-def find_as(packet, reading, index, kind):
-    """The block as one of the asked type, its length rule kept."""
+def find_as(packet, reading, index, kind, served):
+    """The block as one of the asked type, which the question serves, its length rule kept."""
     block = find(packet, reading, index)
-    refuse(block.kind != kind, 10, block.kind, 0)
+    refuse(block.kind != kind or kind not in served, 10, block.kind, 0)
     check_length(block)
     return block
 
@@ -134,7 +135,7 @@ def view(packet, reading, index):
 @question
 def fields(packet, reading, index, kind):
     """Types 1-3: the range, as one record."""
-    return fields_of(find_as(packet, reading, index, kind))
+    return fields_of(find_as(packet, reading, index, kind, RANGED))
 
 
 def fields_of(block):
@@ -144,7 +145,7 @@ def fields_of(block):
 
 @question
 def time(packet, reading, index):
-    return time_of(find_as(packet, reading, index, 4))
+    return time_of(find_as(packet, reading, index, 4, (4,)))
 
 
 def time_of(block):

@@ -2,7 +2,8 @@
 number cursor, chunk words, the dump. standard(packet, draw) gives requests.
 """
 from lists import covers, entries_of, numbers_of, pairs_of, words_of
-from probe import (CURSOR, DUMP, FIELDS, LENT, LIST, PARSE, TYPES, VIEW, WORD, WORDS, request)
+from probe import (CURSOR, DUMP, FIELDS, LENT, LIST, NUMBERS, PARSE, TYPES, VIEW, WORD, WORDS, asked,
+                   request)
 from readings import STANDARD, Refusal, check_length, walk
 
 SOME = 6        # blocks of one packet that are asked
@@ -24,9 +25,12 @@ def standard(packet, draw):
     count = len(blocks)
     for i in [draw.choice((count, count, count + 1, FAR))] + some(count, draw):
         yield request(VIEW, STANDARD, i, packet=packet)
-        for kind in (FIELDS, LIST, WORDS, CURSOR):
-            asked = draw.choice(TYPES[kind])    # mostly another type than the block's
-            yield question(kind, i, asked, draw, packet)
+        for kind in (FIELDS, LIST, WORDS, NUMBERS, CURSOR):
+            other = draw.choice(asked(kind))    # mostly another type than the block's
+            yield question(kind, i, other, draw, packet)
+        for kind in (FIELDS, WORDS, NUMBERS, CURSOR):
+            if i < count:                       # the block's own type, served or not
+                yield question(kind, i, blocks[i].kind, draw, packet)
         if i < count:
             yield from own_type(packet, i, blocks[i], draw)
 
@@ -35,13 +39,13 @@ def some(count, draw):
     return list(range(count)) if count <= SOME else draw.sample(range(count), SOME)
 
 
-def question(kind, i, asked, draw, packet):
+def question(kind, i, given_type, draw, packet):
     if kind == FIELDS:
-        return request(FIELDS, STANDARD, i, asked, packet=packet)
+        return request(FIELDS, STANDARD, i, given_type, packet=packet)
     if kind == CURSOR:
         given = [draw.choice((0, 0, 1, 2, FAR)) for _ in range(3)]
-        return request(CURSOR, i, asked, *given, 3, draw.choice((2, 3)), packet=packet)
-    return request(kind, STANDARD, i, asked, draw.choice((0, 1, 2, 100)), packet=packet)
+        return request(CURSOR, i, given_type, *given, 3, draw.choice((2, 3)), packet=packet)
+    return request(kind, STANDARD, i, given_type, draw.choice((0, 1, 2, 100)), packet=packet)
 
 
 def own_type(packet, i, block, draw):

@@ -1,4 +1,2 @@
--- What this crate's functions compute on their way, and what its theorems speak of. Read in this order: Steps (steps inside one word at once),
--- Calls (a block gone through by calls of any budgets).
+-- Steps: what this crate's functions compute on their way, steps inside one word at once (private).
 pub mod Steps
-pub mod Calls

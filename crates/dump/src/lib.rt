@@ -1,6 +1,7 @@
 // Both readings of a packet as text (document 01, "Views, cursors and the dump"; OPEN-POINTS, "xrdump's lines").
-// The text goes through a lent buffer to standard output, as print's functions do; lists are filled into lent lists, whose room is
-// the most that is shown of one list. These functions promise only that their answer is within the buffer (docs/PROMISES.md, "Exceptions").
+// The text goes through a lent buffer to standard output, as print's functions do. These functions promise only that their answer is within the
+// buffer (docs/PROMISES.md, "Exceptions"). A list is filled where it is shown: into few items, and where these are too few, into as many as are
+// shown of one list at most, so that a short list does not cost what a long one does.
 ghost use Prim.Native.Nat.{_≤_};
 ghost use lib.ListN.{length};
 use def_refusals::Answer;
@@ -8,11 +9,21 @@ use def_refusals::Checked;
 use def_refusals::Refusal;
 use def_wire::Fields;
 use def_wire::FieldsOr;
+use def_wire::Kind;
+use def_wire::KindOr;
+use def_wire::Ranged;
 use def_wire::Reading;
+use def_wire::Rle;
 use def_wire::TimeOr;
 
 // The longest packet that is dumped.
 const MAX_INPUT: usize = 65536;
+
+// The most items that are shown of one list.
+const MOST: usize = 16384;
+
+// As many as most lists have.
+const FEW: usize = 64;
 
 // `refused N`: document 01's number alone.
 pub fn refused_line(buf: &mut [u8], at: usize, x: Refusal) -> usize
@@ -87,37 +98,54 @@ fn block_line(buf: &mut [u8], at: usize, k: usize, h: [u8; 4]) -> usize
 }
 
 // The fields of a block that is fit to be read, or `refused 8`.
-fn fields_or(r: Reading, t: u8, v: &[u8], buf: &mut [u8], at: usize) -> usize
+fn fields_or(r: Reading, g: Ranged, v: &[u8], buf: &mut [u8], at: usize) -> usize
     ensures { λ n. ⌜ n ≤ length (now (buf .entry)) ⌝ }
 {
-    match block::fields(r, t, v) {
+    match block::fields(r, g, v) {
         FieldsOr::Shown(f) => fields_line(buf, at, f),
         FieldsOr::NoneOf(x) => refused_line(buf, at, x),
     }
 }
 
-fn numbers_or(r: Reading, t: u8, v: &[u8], buf: &mut [u8], at: usize, numbers: &mut [u16]) -> usize
+fn many_numbers(r: Reading, a: Rle, v: &[u8], buf: &mut [u8], at: usize) -> usize
     ensures { λ n. ⌜ n ≤ length (now (buf .entry)) ⌝ }
 {
-    match numbers::numbers(r, t, v, numbers) {
-        Answer::Done(n) => numbers_line(buf, at, numbers, n),
+    let mut list = [0u16; MOST];
+    match numbers::numbers(r, a, v, &mut list) {
+        Answer::Done(n) => numbers_line(buf, at, &list, n),
         Answer::Refused(x) => refused_line(buf, at, x),
     }
 }
 
-fn pairs_or(
-    r: Reading,
-    v: &[u8],
-    buf: &mut [u8],
-    at: usize,
-    numbers: &mut [u16],
-    times: &mut [u32],
-) -> usize
+fn numbers_or(r: Reading, a: Rle, v: &[u8], buf: &mut [u8], at: usize) -> usize
     ensures { λ n. ⌜ n ≤ length (now (buf .entry)) ⌝ }
 {
-    match packet_receipt_time::pairs(r, v, numbers, times) {
-        Answer::Done(n) => pairs_line(buf, at, numbers, times, n),
+    let mut list = [0u16; FEW];
+    match numbers::numbers(r, a, v, &mut list) {
+        Answer::Done(n) => numbers_line(buf, at, &list, n),
+        Answer::Refused(_) => many_numbers(r, a, v, buf, at),
+    }
+}
+
+fn many_pairs(r: Reading, v: &[u8], buf: &mut [u8], at: usize) -> usize
+    ensures { λ n. ⌜ n ≤ length (now (buf .entry)) ⌝ }
+{
+    let mut list = [0u16; MOST];
+    let mut times = [0u32; MOST];
+    match packet_receipt_time::pairs(r, v, &mut list, &mut times) {
+        Answer::Done(n) => pairs_line(buf, at, &list, &times, n),
         Answer::Refused(x) => refused_line(buf, at, x),
+    }
+}
+
+fn pairs_or(r: Reading, v: &[u8], buf: &mut [u8], at: usize) -> usize
+    ensures { λ n. ⌜ n ≤ length (now (buf .entry)) ⌝ }
+{
+    let mut list = [0u16; FEW];
+    let mut times = [0u32; FEW];
+    match packet_receipt_time::pairs(r, v, &mut list, &mut times) {
+        Answer::Done(n) => pairs_line(buf, at, &list, &times, n),
+        Answer::Refused(_) => many_pairs(r, v, buf, at),
     }
 }
 
@@ -130,94 +158,76 @@ fn time_or(r: Reading, v: &[u8], buf: &mut [u8], at: usize) -> usize
     }
 }
 
-fn entries_or(
-    r: Reading,
-    v: &[u8],
-    buf: &mut [u8],
-    at: usize,
-    a: &mut [u32],
-    b: &mut [u32],
-    c: &mut [u32],
-) -> usize
+fn many_entries(r: Reading, v: &[u8], buf: &mut [u8], at: usize) -> usize
     ensures { λ n. ⌜ n ≤ length (now (buf .entry)) ⌝ }
 {
-    match dlrr::entries(r, v, a, b, c) {
-        Answer::Done(n) => entries_line(buf, at, a, b, c, n),
+    let mut a = [0u32; MOST];
+    let mut b = [0u32; MOST];
+    let mut c = [0u32; MOST];
+    match dlrr::entries(r, v, &mut a, &mut b, &mut c) {
+        Answer::Done(n) => entries_line(buf, at, &a, &b, &c, n),
         Answer::Refused(x) => refused_line(buf, at, x),
     }
 }
 
-// What stands behind a block's line, by its type.
-fn contents(
-    r: Reading,
-    t: u8,
-    v: &[u8],
-    buf: &mut [u8],
-    at: usize,
-    numbers: &mut [u16],
-    a: &mut [u32],
-    b: &mut [u32],
-    c: &mut [u32],
-) -> usize
+fn entries_or(r: Reading, v: &[u8], buf: &mut [u8], at: usize) -> usize
     ensures { λ n. ⌜ n ≤ length (now (buf .entry)) ⌝ }
 {
-    match t {
-        1 | 2 => {
-            let n = fields_or(r, t, v, buf, at);
-            numbers_or(r, t, v, buf, n, numbers)
-        }
-        3 => {
-            let n = fields_or(r, t, v, buf, at);
-            pairs_or(r, v, buf, n, numbers, a)
-        }
-        4 => time_or(r, v, buf, at),
-        _ => entries_or(r, v, buf, at, a, b, c),
+    let mut a = [0u32; FEW];
+    let mut b = [0u32; FEW];
+    let mut c = [0u32; FEW];
+    match dlrr::entries(r, v, &mut a, &mut b, &mut c) {
+        Answer::Done(n) => entries_line(buf, at, &a, &b, &c, n),
+        Answer::Refused(_) => many_entries(r, v, buf, at),
     }
 }
 
-// A block: its line, and what it shows or one `refused 7`.
-fn one_block(
-    r: Reading,
-    packet: &[u8],
-    place: usize,
-    k: usize,
-    buf: &mut [u8],
-    at: usize,
-    numbers: &mut [u16],
-    a: &mut [u32],
-    b: &mut [u32],
-    c: &mut [u32],
-) -> usize
+// What stands behind the line of a block of types 1 to 3 that is fit to be read: its fields and its list.
+fn ranged(r: Reading, g: Ranged, v: &[u8], buf: &mut [u8], at: usize) -> usize
     ensures { λ n. ⌜ n ≤ length (now (buf .entry)) ⌝ }
 {
-    let h = reader::block_from(packet, place);
+    let n = fields_or(r, g, v, buf, at);
+    match g {
+        Ranged::Chunks(a) => numbers_or(r, a, v, buf, n),
+        Ranged::Times => pairs_or(r, v, buf, n),
+    }
+}
+
+// What stands behind a block's line, by its kind.
+fn contents(r: Reading, k: Kind, v: &[u8], buf: &mut [u8], at: usize) -> usize
+    ensures { λ n. ⌜ n ≤ length (now (buf .entry)) ⌝ }
+{
+    match k {
+        Kind::Spans(g) => ranged(r, g, v, buf, at),
+        Kind::Clock => time_or(r, v, buf, at),
+        Kind::Echoes => entries_or(r, v, buf, at),
+    }
+}
+
+// The same, or one `refused 7`.
+fn contents_or(r: Reading, k: Kind, v: &[u8], buf: &mut [u8], at: usize) -> usize
+    ensures { λ n. ⌜ n ≤ length (now (buf .entry)) ⌝ }
+{
+    match block::check(r, k, v) {
+        Checked::Fine => contents(r, k, v, buf, at),
+        Checked::Unfit(x) => refused_line(buf, at, x),
+    }
+}
+
+// Block k, of which v is the view: its line, and what it shows. Other types than 1 to 5 show type and length only.
+fn one_block(r: Reading, k: usize, v: &[u8], buf: &mut [u8], at: usize) -> usize
+    ensures { λ n. ⌜ n ≤ length (now (buf .entry)) ⌝ }
+{
+    let h = xr::header_data(v);
     let n = block_line(buf, at, k, h);
-    let t = xr::block_type(h);
-    if t == 0 {
-        return n;
-    }
-    if 5 < t {
-        return n;
-    }
-    let v = reader::view_from(r, packet, place);
-    match block::check(r, t, v) {
-        Checked::Fine => contents(r, t, v, buf, n, numbers, a, b, c),
-        Checked::Unfit(x) => refused_line(buf, n, x),
+    match records::kind_of(xr::block_type(h)) {
+        KindOr::AKind(kind) => contents_or(r, kind, v, buf, n),
+        KindOr::NoKind => n,
     }
 }
 
 // The blocks of an accepted packet, one after the other.
-fn blocks(
-    r: Reading,
-    packet: &[u8],
-    count: usize,
-    buf: &mut [u8],
-    at: usize,
-    numbers: &mut [u16],
-    a: &mut [u32],
-    b: &mut [u32],
-    c: &mut [u32],
-) -> usize
+fn blocks(r: Reading, packet: &[u8], count: usize, buf: &mut [u8], at: usize) -> usize
     requires { ⌜ at ≤ length (now buf) ⌝ }
     ensures { λ n. ⌜ n ≤ length (now (buf .entry)) ⌝ }
 {
@@ -225,7 +235,7 @@ fn blocks(
     let mut place: usize = 8;
     let mut n = at;
     while k < count {
-        n = one_block(r, packet, place, k, buf, n, numbers, a, b, c);
+        n = one_block(r, k, reader::view_from(r, packet, place), buf, n);
         place = reader::moved_from(packet, place);
         k += 1;
     }
@@ -233,42 +243,25 @@ fn blocks(
 }
 
 // A reading that refuses the packet is `refused N` alone.
-fn one_reading(
-    r: Reading,
-    packet: &[u8],
-    buf: &mut [u8],
-    at: usize,
-    numbers: &mut [u16],
-    a: &mut [u32],
-    b: &mut [u32],
-    c: &mut [u32],
-) -> usize
+fn one_reading(r: Reading, packet: &[u8], buf: &mut [u8], at: usize) -> usize
     requires { ⌜ at ≤ length (now buf) ⌝ }
     ensures { λ n. ⌜ n ≤ length (now (buf .entry)) ⌝ }
 {
     match xr::count(r, packet) {
-        Answer::Done(count) => blocks(r, packet, count, buf, at, numbers, a, b, c),
+        Answer::Done(count) => blocks(r, packet, count, buf, at),
         Answer::Refused(x) => refused_line(buf, at, x),
     }
 }
 
 // Both readings of a packet.
-pub fn dump(
-    packet: &[u8],
-    buf: &mut [u8],
-    at: usize,
-    numbers: &mut [u16],
-    a: &mut [u32],
-    b: &mut [u32],
-    c: &mut [u32],
-) -> usize
+pub fn dump(packet: &[u8], buf: &mut [u8], at: usize) -> usize
     ensures { λ n. ⌜ n ≤ length (now (buf .entry)) ⌝ }
 {
     if MAX_INPUT < packet.len() {
         return print::text(buf, at, b"refused 11\n");
     }
     let n = print::text(buf, at, b"reading standard\n");
-    let m = one_reading(Reading::Standard, packet, buf, n, numbers, a, b, c);
+    let m = one_reading(Reading::Standard, packet, buf, n);
     let o = print::text(buf, m, b"reading crate\n");
-    one_reading(Reading::Crate, packet, buf, o, numbers, a, b, c)
+    one_reading(Reading::Crate, packet, buf, o)
 }

@@ -35,19 +35,13 @@ pub fn byte(buf: &mut [u8], at: usize, b: u8) -> usize
 pub fn text(buf: &mut [u8], at: usize, t: &[u8]) -> usize
     ensures { λ r. ⌜ r ≤ length (now (buf .entry)) ⌝ }
 {
-    let mut n = within(buf, at);
+    let mut n = utils::lesser(at, buf.len());
     let mut i: usize = 0;
     while i < t.len() {
         n = byte(buf, n, t[i]);
         i += 1;
     }
     n
-}
-
-fn within(buf: &[u8], at: usize) -> usize
-    ensures { λ r. ⌜ r ≤ length (now (buf .entry)) ⌝ }
-{
-    if at <= buf.len() { at } else { buf.len() }
 }
 
 pub fn decimal(buf: &mut [u8], at: usize, n: u64) -> usize
@@ -102,18 +96,12 @@ fn wide32(x: u32) -> u64 {
     x as u64
 }
 
-fn lesser(a: usize, b: usize) -> usize
-    ensures { λ r. ⌜ (r ≤ a) × (r ≤ b) ⌝ }
-{
-    if a <= b { a } else { b }
-}
-
 // The first n of a list of 16-bit numbers, a space before each.
 pub fn list16(buf: &mut [u8], at: usize, list: &[u16], n: usize) -> usize
     ensures { λ r. ⌜ r ≤ length (now (buf .entry)) ⌝ }
 {
-    let stop = lesser(n, list.len());
-    let mut to = within(buf, at);
+    let stop = utils::lesser(n, list.len());
+    let mut to = utils::lesser(at, buf.len());
     let mut i: usize = 0;
     while i < stop {
         to = number(buf, to, wide16(list[i]));
@@ -126,8 +114,8 @@ pub fn list16(buf: &mut [u8], at: usize, list: &[u16], n: usize) -> usize
 pub fn list_pairs(buf: &mut [u8], at: usize, numbers: &[u16], times: &[u32], n: usize) -> usize
     ensures { λ r. ⌜ r ≤ length (now (buf .entry)) ⌝ }
 {
-    let stop = lesser(n, lesser(numbers.len(), times.len()));
-    let mut to = within(buf, at);
+    let stop = utils::lesser(n, utils::lesser(numbers.len(), times.len()));
+    let mut to = utils::lesser(at, buf.len());
     let mut i: usize = 0;
     while i < stop {
         to = number(buf, to, wide16(numbers[i]));
@@ -141,8 +129,8 @@ pub fn list_pairs(buf: &mut [u8], at: usize, numbers: &[u16], times: &[u32], n: 
 pub fn list_entries(buf: &mut [u8], at: usize, a: &[u32], b: &[u32], c: &[u32], n: usize) -> usize
     ensures { λ r. ⌜ r ≤ length (now (buf .entry)) ⌝ }
 {
-    let stop = lesser(n, lesser(a.len(), lesser(b.len(), c.len())));
-    let mut to = within(buf, at);
+    let stop = utils::lesser(n, utils::lesser(a.len(), utils::lesser(b.len(), c.len())));
+    let mut to = utils::lesser(at, buf.len());
     let mut i: usize = 0;
     while i < stop {
         to = number(buf, to, wide32(a[i]));

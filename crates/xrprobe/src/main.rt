@@ -4,6 +4,7 @@
 // anything at all after a refusal, has changed.
 mod ask;
 mod lent;
+mod lists;
 
 ghost use Prim.Native.Nat.{_≤_};
 ghost use lib.ListN.{length};
@@ -43,15 +44,7 @@ fn cut(buf: &mut [u8], at: usize) -> Turn {
 }
 
 // One request from standard input.
-fn one_request(
-    request: &mut [u8],
-    buf: &mut [u8],
-    at: usize,
-    numbers: &mut [u16],
-    a: &mut [u32],
-    b: &mut [u32],
-    c: &mut [u32],
-) -> Turn {
+fn one_request(request: &mut [u8], buf: &mut [u8], at: usize, list: &mut [u16]) -> Turn {
     let mut head = [0u8; 5];
     let got = io::read_full(STDIN_FILENO, &mut head);
     if got == 0 {
@@ -71,33 +64,23 @@ fn one_request(
     if read < long {
         return cut(buf, at);
     }
-    let told = ask::answer(head[0], &request[0..long], buf, at, numbers, a, b, c);
+    let told = ask::answer(head[0], &request[0..long], buf, at, list);
     answered(buf, told)
 }
 
 fn main() {
     let mut request = [0u8; LONGEST];
     let mut buf = [0u8; 65536];
-    let mut numbers = [0u16; SHOWN];
-    let mut a = [0u32; SHOWN];
-    let mut b = [0u32; SHOWN];
-    let mut c = [0u32; SHOWN];
-    run(&mut request, &mut buf, &mut numbers, &mut a, &mut b, &mut c);
+    let mut list = [0u16; SHOWN];
+    run(&mut request, &mut buf, &mut list);
 }
 
 // As many requests as come.
-fn run(
-    request: &mut [u8],
-    buf: &mut [u8],
-    numbers: &mut [u16],
-    a: &mut [u32],
-    b: &mut [u32],
-    c: &mut [u32],
-) {
+fn run(request: &mut [u8], buf: &mut [u8], list: &mut [u16]) {
     let mut left: u64 = 18446744073709551615;
     let mut at: usize = 0;
     while 0 < left {
-        let t = one_request(request, buf, at, numbers, a, b, c);
+        let t = one_request(request, buf, at, list);
         at = t.at;
         if !t.fine {
             print::flush(buf, at);

@@ -15,8 +15,8 @@ abbrev μ-loop : tie.MeasureT-loop
 lesser-requires : tie.Need-lesser-requires Inv-loop μ-loop
 lesser-requires c κs = search needs
 
-within-requires : tie.Need-within-requires Inv-loop μ-loop
-within-requires c κs = search needs
+lesser-requires-2 : tie.Need-lesser-requires-2 Inv-loop μ-loop
+lesser-requires-2 c κs = search needs
 
 loop-holds : tie.Need-loop-holds Inv-loop μ-loop
 loop-holds c = search needs
@@ -55,7 +55,7 @@ list16-spec =
     Inv-loop
     μ-loop
     lesser-requires
-    within-requires
+    lesser-requires-2
     loop-holds
     mul-wide16
     shared-slice-read-wide16

@@ -21,8 +21,8 @@ lesser-requires-2 c κs = search needs
 lesser-requires-3 : tie.Need-lesser-requires-3 Inv-loop μ-loop
 lesser-requires-3 c κs = search needs
 
-within-requires : tie.Need-within-requires Inv-loop μ-loop
-within-requires c κs = search needs
+lesser-requires-4 : tie.Need-lesser-requires-4 Inv-loop μ-loop
+lesser-requires-4 c κs = search needs
 
 loop-holds : tie.Need-loop-holds Inv-loop μ-loop
 loop-holds c = search needs
@@ -87,7 +87,7 @@ list-entries-spec =
     lesser-requires
     lesser-requires-2
     lesser-requires-3
-    within-requires
+    lesser-requires-4
     loop-holds
     mul-wide32
     shared-slice-read-wide32

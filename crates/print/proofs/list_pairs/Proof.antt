@@ -18,8 +18,8 @@ lesser-requires c κs = search needs
 lesser-requires-2 : tie.Need-lesser-requires-2 Inv-loop μ-loop
 lesser-requires-2 c κs = search needs
 
-within-requires : tie.Need-within-requires Inv-loop μ-loop
-within-requires c κs = search needs
+lesser-requires-3 : tie.Need-lesser-requires-3 Inv-loop μ-loop
+lesser-requires-3 c κs = search needs
 
 loop-holds : tie.Need-loop-holds Inv-loop μ-loop
 loop-holds c = search needs
@@ -71,7 +71,7 @@ list-pairs-spec =
     μ-loop
     lesser-requires
     lesser-requires-2
-    within-requires
+    lesser-requires-3
     loop-holds
     mul-wide16
     shared-slice-read-wide16

@@ -12,8 +12,8 @@ Inv-loop buf₀ at t n₀ i₀ buf n i = (i ≤ length t) × (n ≤ length buf�
 abbrev μ-loop : tie.MeasureT-loop
 μ-loop buf₀ at t n₀ i₀ buf n i = length t - i
 
-within-requires : tie.Need-within-requires Inv-loop μ-loop
-within-requires c κs = search needs
+lesser-requires : tie.Need-lesser-requires Inv-loop μ-loop
+lesser-requires c κs = search needs
 
 loop-holds : tie.Need-loop-holds Inv-loop μ-loop
 loop-holds c = search needs
@@ -45,7 +45,7 @@ text-spec =
     (tie.spec
     Inv-loop
     μ-loop
-    within-requires
+    lesser-requires
     loop-holds
     shared-slice-read-byte
     byte-requires

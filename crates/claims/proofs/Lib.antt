@@ -1,0 +1,2 @@
+-- Cursor (the number cursor by calls).
+pub mod Cursor
