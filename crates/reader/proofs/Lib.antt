@@ -1,7 +1,8 @@
--- PlacesLaws (a place that is cut to the packet's end, the view there, the next place), ReaderLaws (the places are the walk's), Unique (one answer each);
--- Held and Opening (what the proofs by hand share).
+-- PlacesLaws (L, the view and the next place, at a place), ReaderLaws (the reader's places and views are the walk's),
+-- Walk and Held (what the proofs by hand share), Unique and UniqueHeld (one answer each).
 pub mod PlacesLaws
 pub mod ReaderLaws
+pub mod Walk
 pub mod Held
-pub mod Opening
 pub mod Unique
+pub mod UniqueHeld

@@ -1,31 +1,46 @@
--- `reader::view_at` meets its contract: the part is within the packet, and begins where the block does. Assumes nothing.
-use Rattle.reader.proofs.PlacesLaws.{view-cut, start-cut}
+-- `reader::view_at` meets its contract: its own L bytes for the standard, everything left for the crate.
+use mathlib.Core.Path.{refl, _∙_}
+use Rattle.reader.proofs.PlacesLaws.{view-standard, view-crate}
 use borrow.Author.Needs.{needs}
 use Rattle.reader.proofs.view_at.Statement.{statement}
 use Rattle.reader.proofs.view_at.Tie as tie
 
-lesser-requires : tie.Need-lesser-requires
-lesser-requires c κs = search needs
+length-from-requires : tie.Need-length-from-requires
+length-from-requires c κs = search needs
 
-end-at-requires : tie.Need-end-at-requires
-end-at-requires c κs = search needs
+enum-told : tie.Need-enum-told
+enum-told c = search needs
 
-sub-result : tie.Need-sub-result
-sub-result c = search needs
+part-requires : tie.Need-part-requires
+part-requires c κs = search needs
 
-part-result-start : tie.Need-part-result-start
-part-result-start c = search needs
+enum-told-2 : tie.Need-enum-told-2
+enum-told-2 c = search needs
 
-part-result-end : tie.Need-part-result-end
-part-result-end c = search needs
+part-requires-2 : tie.Need-part-requires-2
+part-requires-2 c κs = search needs
 
 returns : tie.Need-returns
-returns c = let e = c .before in
-    let l = e .before in
+returns c = let t = c .before in
+    let l = t .before .before in
     let a = l .before .before .args in
-    (view-cut (a .s .now) (a .at) (l .lesser .result) (l .lesser .ensures) (a .r) (e .end-at .result) (e .end-at .ensures), start-cut (a .s .now) (a .at) (l .lesser .result) (l .lesser .ensures) (a .s .ptr))
+    let e = c .part .ensures in
+    (e .0 ∙ view-standard (a .r) (a .s .now) (a .at) _ (t .enum-told .given .1) (l .length-from .ensures .0), e .1)
+
+returns-2 : tie.Need-returns-2
+returns-2 c = let t = c .before in
+    let a = t .before .before .before .before .args in
+    let e = c .part2 .ensures in
+    (e .0 ∙ view-crate (a .r) (a .s .now) (a .at) _ (t .enum-told2 .given .1) refl, e .1)
 
 pub view-at-spec : {M : Type 1} → statement M
 view-at-spec =
     tie.close
-    (tie.spec lesser-requires end-at-requires sub-result part-result-start part-result-end returns)
+    (tie.spec
+    length-from-requires
+    enum-told
+    part-requires
+    enum-told-2
+    part-requires-2
+    returns
+    returns-2)
