@@ -90,7 +90,7 @@ module _ (a : Rle) (v : List ℕ) where
       let j : s .taken ≡ takenBy ws budget c = ap (λ (x : Stretch). x .taken) (m .0) in
       let n : s .listed ≡ length (listedBy g ws budget c) = ap (λ (x : Stretch). x .listed) (m .0) in
       let h : take (s .listed) out′ ≡ listedBy g ws budget c =
-          rw (n, m .1) (take-append-seam (listedBy g ws budget c) (drop (length (listedBy g ws budget c)) out)) in
+      rw (n, m .1) (take-append-seam (listedBy g ws budget c) (drop (length (listedBy g ws budget c)) out)) in
       let i = calls-sum r in
       let u : taken ≡ takenBy ws budgets (afterSteps ws budget c) = i .0 ∙ ap (λ (x : Cursor). takenBy ws budgets x) k in
       let w : l ≡ listedBy g ws budgets (afterSteps ws budget c) = i .1 ∙ ap (λ (x : Cursor). listedBy g ws budgets x) k in

@@ -29,13 +29,29 @@ fn tell_list(buf: &mut [u8], at: usize, word: &[u8], list: &[u16], a: Answer) ->
     }
 }
 
-fn numbers(s: &[u8], r: Reading, k: usize, t: u8, buf: &mut [u8], at: usize, list: &mut [u16]) -> usize {
+fn numbers(
+    s: &[u8],
+    r: Reading,
+    k: usize,
+    t: u8,
+    buf: &mut [u8],
+    at: usize,
+    list: &mut [u16],
+) -> usize {
     lent::fill16(list);
     let a = by_number::numbers(r, s, k, t, list);
     tell_list(buf, at, b"numbers", list, a)
 }
 
-fn words(s: &[u8], r: Reading, k: usize, t: u8, buf: &mut [u8], at: usize, list: &mut [u16]) -> usize {
+fn words(
+    s: &[u8],
+    r: Reading,
+    k: usize,
+    t: u8,
+    buf: &mut [u8],
+    at: usize,
+    list: &mut [u16],
+) -> usize {
     lent::fill16(list);
     let a = by_number::words(r, s, k, t, list);
     tell_list(buf, at, b"words", list, a)
@@ -56,7 +72,15 @@ fn tell_pairs(buf: &mut [u8], at: usize, ns: &[u16], ts: &[u32], a: Answer) -> u
     }
 }
 
-fn pairs_in(s: &[u8], r: Reading, k: usize, buf: &mut [u8], at: usize, ns: &mut [u16], ts: &mut [u32]) -> usize {
+fn pairs_in(
+    s: &[u8],
+    r: Reading,
+    k: usize,
+    buf: &mut [u8],
+    at: usize,
+    ns: &mut [u16],
+    ts: &mut [u32],
+) -> usize {
     lent::fill16(ns);
     lent::fill32(ts);
     let a = packet_receipt_time::pairs_in(r, s, k, ns, ts);
@@ -108,7 +132,16 @@ fn fill_three(a: &mut [u32], b: &mut [u32], c: &mut [u32]) {
     lent::fill32(c);
 }
 
-fn entries_in(s: &[u8], r: Reading, k: usize, buf: &mut [u8], at: usize, a: &mut [u32], b: &mut [u32], c: &mut [u32]) -> usize {
+fn entries_in(
+    s: &[u8],
+    r: Reading,
+    k: usize,
+    buf: &mut [u8],
+    at: usize,
+    a: &mut [u32],
+    b: &mut [u32],
+    c: &mut [u32],
+) -> usize {
     fill_three(a, b, c);
     let x = dlrr::entries_in(r, s, k, a, b, c);
     tell_entries(buf, at, a, b, c, x)
@@ -170,7 +203,15 @@ pub fn numbers_by(p: &[u8], buf: &mut [u8], at: usize, list: &mut [u16]) -> Told
     }
     let k = ask::number(p, 1);
     let room = utils::lesser(ask::number(p, 6), list.len());
-    ask::served(numbers(&p[10..], ask::reading(which), k, t, buf, at, &mut list[0..room]))
+    ask::served(numbers(
+        &p[10..],
+        ask::reading(which),
+        k,
+        t,
+        buf,
+        at,
+        &mut list[0..room],
+    ))
 }
 
 // Kind 9: reading, block, asked type (any byte), room, packet.
@@ -185,7 +226,15 @@ pub fn chunk_words(p: &[u8], buf: &mut [u8], at: usize, list: &mut [u16]) -> Tol
     }
     let k = ask::number(p, 1);
     let room = utils::lesser(ask::number(p, 6), list.len());
-    ask::served(words(&p[10..], ask::reading(which), k, t, buf, at, &mut list[0..room]))
+    ask::served(words(
+        &p[10..],
+        ask::reading(which),
+        k,
+        t,
+        buf,
+        at,
+        &mut list[0..room],
+    ))
 }
 
 fn moved(buf: &mut [u8], at: usize, taken: usize, next: Cursor) -> usize {
@@ -211,7 +260,16 @@ fn tell_advance(buf: &mut [u8], at: usize, list: &[u16], a: Advanced) -> usize {
     }
 }
 
-fn advance(s: &[u8], k: usize, t: u8, from: Cursor, budget: usize, buf: &mut [u8], at: usize, list: &mut [u16]) -> usize {
+fn advance(
+    s: &[u8],
+    k: usize,
+    t: u8,
+    from: Cursor,
+    budget: usize,
+    buf: &mut [u8],
+    at: usize,
+    list: &mut [u16],
+) -> usize {
     lent::fill16(list);
     let a = by_number::advance(s, k, t, from, budget, list);
     tell_advance(buf, at, list, a)

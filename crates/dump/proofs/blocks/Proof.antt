@@ -7,13 +7,16 @@ use Rattle.dump.proofs.blocks.Statement.{statement}
 use Rattle.dump.proofs.blocks.Tie as tie
 
 abbrev Inv-loop : tie.InvT-loop
-Inv-loop r packet count buf₀ at numbers₀ a₀ b₀ c₀ k₀ place₀ n₀ buf numbers a b c k place n = (k ≤ count) × (n ≤ length buf₀) × (length buf ≡ length buf₀) × (length numbers ≡ length numbers₀) × (length a ≡ length a₀) × (length b ≡ length b₀) × (length c ≡ length c₀)
+Inv-loop r packet count buf₀ at k₀ place₀ n₀ buf k place n = (k ≤ count) × (n ≤ length buf₀) × (length buf ≡ length buf₀)
 
 abbrev μ-loop : tie.MeasureT-loop
-μ-loop r packet count buf₀ at numbers₀ a₀ b₀ c₀ k₀ place₀ n₀ buf numbers a b c k place n = count - k
+μ-loop r packet count buf₀ at k₀ place₀ n₀ buf k place n = count - k
 
 loop-holds : tie.Need-loop-holds Inv-loop μ-loop
 loop-holds c = search needs
+
+view-from-requires : tie.Need-view-from-requires Inv-loop μ-loop
+view-from-requires c κs = search needs
 
 one-block-requires : tie.Need-one-block-requires Inv-loop μ-loop
 one-block-requires c κs = search needs
@@ -33,18 +36,6 @@ loop-again c = search needs
 same-length : tie.Need-same-length Inv-loop μ-loop
 same-length c = search needs
 
-same-length-2 : tie.Need-same-length-2 Inv-loop μ-loop
-same-length-2 c = search needs
-
-same-length-3 : tie.Need-same-length-3 Inv-loop μ-loop
-same-length-3 c = search needs
-
-same-length-4 : tie.Need-same-length-4 Inv-loop μ-loop
-same-length-4 c = search needs
-
-same-length-5 : tie.Need-same-length-5 Inv-loop μ-loop
-same-length-5 c = search needs
-
 returns : tie.Need-returns Inv-loop μ-loop
 returns c = search needs
 
@@ -55,14 +46,11 @@ blocks-spec =
     Inv-loop
     μ-loop
     loop-holds
+    view-from-requires
     one-block-requires
     moved-from-requires
     add-k
     loop-less
     loop-again
     same-length
-    same-length-2
-    same-length-3
-    same-length-4
-    same-length-5
     returns)
