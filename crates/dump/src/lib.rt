@@ -6,8 +6,6 @@ ghost use Prim.Native.Nat.{_≤_};
 ghost use lib.ListN.{length};
 use def_refusals::Answer;
 use def_refusals::Checked;
-use def_refusals::Refusal;
-use def_wire::Fields;
 use def_wire::FieldsOr;
 use def_wire::Kind;
 use def_wire::KindOr;
@@ -25,85 +23,13 @@ const MOST: usize = 16384;
 // As many as most lists have.
 const FEW: usize = 64;
 
-// `refused N`: document 01's number alone.
-pub fn refused_line(buf: &mut [u8], at: usize, x: Refusal) -> usize
-    ensures { λ r. ⌜ r ≤ length (now (buf .entry)) ⌝ }
-{
-    let row = refusal_number::number(x);
-    let n = print::labelled(buf, at, b"refused", row.number as u64);
-    print::line_end(buf, n)
-}
-
-// `ssrc S begin B end E thinning T`.
-pub fn fields_line(buf: &mut [u8], at: usize, f: Fields) -> usize
-    ensures { λ r. ⌜ r ≤ length (now (buf .entry)) ⌝ }
-{
-    let n = print::labelled(buf, at, b"ssrc", f.ssrc as u64);
-    let m = print::labelled(buf, n, b" begin", f.begin as u64);
-    let o = print::labelled(buf, m, b" end", f.end as u64);
-    let p = print::labelled(buf, o, b" thinning", f.thinning as u64);
-    print::line_end(buf, p)
-}
-
-// `time N`.
-pub fn time_line(buf: &mut [u8], at: usize, time: u64) -> usize
-    ensures { λ r. ⌜ r ≤ length (now (buf .entry)) ⌝ }
-{
-    let n = print::labelled(buf, at, b"time", time);
-    print::line_end(buf, n)
-}
-
-// `numbers ..`.
-pub fn numbers_line(buf: &mut [u8], at: usize, list: &[u16], count: usize) -> usize
-    ensures { λ r. ⌜ r ≤ length (now (buf .entry)) ⌝ }
-{
-    let n = print::text(buf, at, b"numbers");
-    let m = print::list16(buf, n, list, count);
-    print::line_end(buf, m)
-}
-
-// `pairs n t n t ..`.
-pub fn pairs_line(buf: &mut [u8], at: usize, numbers: &[u16], times: &[u32], count: usize) -> usize
-    ensures { λ r. ⌜ r ≤ length (now (buf .entry)) ⌝ }
-{
-    let n = print::text(buf, at, b"pairs");
-    let m = print::list_pairs(buf, n, numbers, times, count);
-    print::line_end(buf, m)
-}
-
-// `entries s l d s l d ..`.
-pub fn entries_line(
-    buf: &mut [u8],
-    at: usize,
-    a: &[u32],
-    b: &[u32],
-    c: &[u32],
-    count: usize,
-) -> usize
-    ensures { λ r. ⌜ r ≤ length (now (buf .entry)) ⌝ }
-{
-    let n = print::text(buf, at, b"entries");
-    let m = print::list_entries(buf, n, a, b, c, count);
-    print::line_end(buf, m)
-}
-
-// `block K type T length L`.
-fn block_line(buf: &mut [u8], at: usize, k: usize, h: [u8; 4]) -> usize
-    ensures { λ r. ⌜ r ≤ length (now (buf .entry)) ⌝ }
-{
-    let n = print::labelled(buf, at, b"block", k as u64);
-    let m = print::labelled(buf, n, b" type", xr::block_type(h) as u64);
-    let o = print::labelled(buf, m, b" length", xr::block_length(h) as u64);
-    print::line_end(buf, o)
-}
-
 // The fields of a block that is fit to be read, or `refused 8`.
 fn fields_or(r: Reading, g: Ranged, v: &[u8], buf: &mut [u8], at: usize) -> usize
     ensures { λ n. ⌜ n ≤ length (now (buf .entry)) ⌝ }
 {
     match block::fields(r, g, v) {
-        FieldsOr::Shown(f) => fields_line(buf, at, f),
-        FieldsOr::NoneOf(x) => refused_line(buf, at, x),
+        FieldsOr::Shown(f) => lines::fields_line(buf, at, f),
+        FieldsOr::NoneOf(x) => lines::refused_line(buf, at, x),
     }
 }
 
@@ -112,8 +38,8 @@ fn many_numbers(r: Reading, a: Rle, v: &[u8], buf: &mut [u8], at: usize) -> usiz
 {
     let mut list = [0u16; MOST];
     match numbers::numbers(r, a, v, &mut list) {
-        Answer::Done(n) => numbers_line(buf, at, &list, n),
-        Answer::Refused(x) => refused_line(buf, at, x),
+        Answer::Done(n) => lines::numbers_line(buf, at, &list, n),
+        Answer::Refused(x) => lines::refused_line(buf, at, x),
     }
 }
 
@@ -122,7 +48,7 @@ fn numbers_or(r: Reading, a: Rle, v: &[u8], buf: &mut [u8], at: usize) -> usize
 {
     let mut list = [0u16; FEW];
     match numbers::numbers(r, a, v, &mut list) {
-        Answer::Done(n) => numbers_line(buf, at, &list, n),
+        Answer::Done(n) => lines::numbers_line(buf, at, &list, n),
         Answer::Refused(_) => many_numbers(r, a, v, buf, at),
     }
 }
@@ -133,8 +59,8 @@ fn many_pairs(r: Reading, v: &[u8], buf: &mut [u8], at: usize) -> usize
     let mut list = [0u16; MOST];
     let mut times = [0u32; MOST];
     match packet_receipt_time::pairs(r, v, &mut list, &mut times) {
-        Answer::Done(n) => pairs_line(buf, at, &list, &times, n),
-        Answer::Refused(x) => refused_line(buf, at, x),
+        Answer::Done(n) => lines::pairs_line(buf, at, &list, &times, n),
+        Answer::Refused(x) => lines::refused_line(buf, at, x),
     }
 }
 
@@ -144,7 +70,7 @@ fn pairs_or(r: Reading, v: &[u8], buf: &mut [u8], at: usize) -> usize
     let mut list = [0u16; FEW];
     let mut times = [0u32; FEW];
     match packet_receipt_time::pairs(r, v, &mut list, &mut times) {
-        Answer::Done(n) => pairs_line(buf, at, &list, &times, n),
+        Answer::Done(n) => lines::pairs_line(buf, at, &list, &times, n),
         Answer::Refused(_) => many_pairs(r, v, buf, at),
     }
 }
@@ -153,8 +79,8 @@ fn time_or(r: Reading, v: &[u8], buf: &mut [u8], at: usize) -> usize
     ensures { λ n. ⌜ n ≤ length (now (buf .entry)) ⌝ }
 {
     match block::time(r, v) {
-        TimeOr::Time(t) => time_line(buf, at, t.0),
-        TimeOr::NoTime(x) => refused_line(buf, at, x),
+        TimeOr::Time(t) => lines::time_line(buf, at, t.0),
+        TimeOr::NoTime(x) => lines::refused_line(buf, at, x),
     }
 }
 
@@ -165,8 +91,8 @@ fn many_entries(r: Reading, v: &[u8], buf: &mut [u8], at: usize) -> usize
     let mut b = [0u32; MOST];
     let mut c = [0u32; MOST];
     match dlrr::entries(r, v, &mut a, &mut b, &mut c) {
-        Answer::Done(n) => entries_line(buf, at, &a, &b, &c, n),
-        Answer::Refused(x) => refused_line(buf, at, x),
+        Answer::Done(n) => lines::entries_line(buf, at, &a, &b, &c, n),
+        Answer::Refused(x) => lines::refused_line(buf, at, x),
     }
 }
 
@@ -177,7 +103,7 @@ fn entries_or(r: Reading, v: &[u8], buf: &mut [u8], at: usize) -> usize
     let mut b = [0u32; FEW];
     let mut c = [0u32; FEW];
     match dlrr::entries(r, v, &mut a, &mut b, &mut c) {
-        Answer::Done(n) => entries_line(buf, at, &a, &b, &c, n),
+        Answer::Done(n) => lines::entries_line(buf, at, &a, &b, &c, n),
         Answer::Refused(_) => many_entries(r, v, buf, at),
     }
 }
@@ -210,7 +136,7 @@ fn contents_or(r: Reading, k: Kind, v: &[u8], buf: &mut [u8], at: usize) -> usiz
 {
     match block::check(r, k, v) {
         Checked::Fine => contents(r, k, v, buf, at),
-        Checked::Unfit(x) => refused_line(buf, at, x),
+        Checked::Unfit(x) => lines::refused_line(buf, at, x),
     }
 }
 
@@ -219,7 +145,7 @@ fn one_block(r: Reading, k: usize, v: &[u8], buf: &mut [u8], at: usize) -> usize
     ensures { λ n. ⌜ n ≤ length (now (buf .entry)) ⌝ }
 {
     let h = xr::header_data(v);
-    let n = block_line(buf, at, k, h);
+    let n = lines::block_line(buf, at, k, h);
     match records::kind_of(xr::block_type(h)) {
         KindOr::AKind(kind) => contents_or(r, kind, v, buf, n),
         KindOr::NoKind => n,
@@ -249,7 +175,7 @@ fn one_reading(r: Reading, packet: &[u8], buf: &mut [u8], at: usize) -> usize
 {
     match xr::count(r, packet) {
         Answer::Done(count) => blocks(r, packet, count, buf, at),
-        Answer::Refused(x) => refused_line(buf, at, x),
+        Answer::Refused(x) => lines::refused_line(buf, at, x),
     }
 }
 

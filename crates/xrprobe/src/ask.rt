@@ -4,7 +4,6 @@ ghost use mathlib.Core.Path.{_≡_};
 use crate::lent;
 use crate::lists;
 use def_refusals::Answer;
-use def_refusals::Refusal;
 use def_standard::Chunk;
 use def_wire::FieldsOr;
 use def_wire::Located;
@@ -59,26 +58,17 @@ pub fn reading(b: u8) -> Reading {
     }
 }
 
-// `refused N A B`.
-pub fn refused(buf: &mut [u8], at: usize, x: Refusal) -> usize {
-    let row = refusal_number::number(x);
-    let n = print::labelled(buf, at, b"refused", row.number as u64);
-    let m = print::number(buf, n, row.first as u64);
-    let o = print::number(buf, m, row.second as u64);
-    print::line_end(buf, o)
-}
-
 fn fields(s: &[u8], r: Reading, k: usize, t: u8, buf: &mut [u8], at: usize) -> usize {
     match by_number::fields(r, s, k, t) {
-        FieldsOr::Shown(f) => dump::fields_line(buf, at, f),
-        FieldsOr::NoneOf(x) => refused(buf, at, x),
+        FieldsOr::Shown(f) => lines::fields_line(buf, at, f),
+        FieldsOr::NoneOf(x) => lines::refusal_line(buf, at, x),
     }
 }
 
 fn time(s: &[u8], r: Reading, k: usize, buf: &mut [u8], at: usize) -> usize {
     match block::time_in(r, s, k) {
-        TimeOr::Time(t) => dump::time_line(buf, at, t.0),
-        TimeOr::NoTime(x) => refused(buf, at, x),
+        TimeOr::Time(t) => lines::time_line(buf, at, t.0),
+        TimeOr::NoTime(x) => lines::refusal_line(buf, at, x),
     }
 }
 
@@ -104,14 +94,11 @@ fn shown(p: &[u8], buf: &mut [u8], at: usize) -> Told {
 fn tell_word(buf: &mut [u8], at: usize, out: &[u8], a: Answer) -> usize {
     match a {
         Answer::Done(n) => {
-            let m = print::text(buf, at, b"word ");
-            let o = print::hex(buf, m, utils::byte_at(out, 0));
-            let p = print::hex(buf, o, utils::byte_at(out, 1));
-            let q = print::line_end(buf, p);
-            lent::told(buf, q, lent::stands8(out, n))
+            let m = lines::word_line(buf, at, utils::byte_at(out, 0), utils::byte_at(out, 1));
+            lent::told(buf, m, lent::stands8(out, n))
         }
         Answer::Refused(x) => {
-            let m = refused(buf, at, x);
+            let m = lines::refusal_line(buf, at, x);
             lent::told(buf, m, lent::stands8(out, 0))
         }
     }
@@ -157,25 +144,13 @@ fn parse(p: &[u8], buf: &mut [u8], at: usize) -> Told {
         return unserved(at);
     }
     match xr::Xr::parse(reading(which), &p[1..]) {
-        Parsed::Packet(x) => {
-            let n = print::labelled(buf, at, b"blocks", x.blocks as u64);
-            let m = print::labelled(buf, n, b" ssrc", x.ssrc as u64);
-            served(print::line_end(buf, m))
-        }
-        Parsed::Unread(x) => served(refused(buf, at, x)),
+        Parsed::Packet(x) => served(lines::blocks_line(buf, at, x.blocks, x.ssrc)),
+        Parsed::Unread(x) => served(lines::refusal_line(buf, at, x)),
     }
 }
 
 fn viewed(buf: &mut [u8], at: usize, offset: usize, v: &[u8]) -> usize {
-    let h = xr::header_data(v);
-    let n = print::labelled(buf, at, b"view", offset as u64);
-    let m = print::number(buf, n, v.len() as u64);
-    let o = print::text(buf, m, b" header ");
-    let p = print::hex(buf, o, h[0]);
-    let q = print::hex(buf, p, h[1]);
-    let r = print::hex(buf, q, h[2]);
-    let t = print::hex(buf, r, h[3]);
-    print::line_end(buf, t)
+    lines::view_line(buf, at, offset, v.len(), xr::header_data(v))
 }
 
 // Kind 11: reading, block, packet.
@@ -192,7 +167,7 @@ fn view(p: &[u8], buf: &mut [u8], at: usize) -> Told {
     let s = &p[5..];
     match xr::locate(r, s, k) {
         Located::At(offset, _) => served(viewed(buf, at, offset, xr::view(r, s, k))),
-        Located::Missing(x) => served(refused(buf, at, x)),
+        Located::Missing(x) => served(lines::refusal_line(buf, at, x)),
     }
 }
 
@@ -200,14 +175,11 @@ fn view(p: &[u8], buf: &mut [u8], at: usize) -> Told {
 pub fn answer(kind: u8, p: &[u8], buf: &mut [u8], at: usize, list: &mut [u16]) -> Told {
     match kind {
         1 => served(dump::dump(p, buf, at)),
-        2 => lists::any(p, buf, at, list),
         3 => shown(p, buf, at),
         4 => lists::stretch(p, buf, at, list),
         7 => make(p, buf, at),
         8 => parse(p, buf, at),
-        9 => lists::chunk_words(p, buf, at, list),
         11 => view(p, buf, at),
-        14 => lists::numbers_by(p, buf, at, list),
-        _ => unserved(at),
+        _ => lists::any(kind, p, buf, at, list),
     }
 }
