@@ -1,4 +1,7 @@
--- What the project claims beyond single functions, each a few plain lines about the public calls. Read in this order: Examples (document 01's
--- twelve, and the worked facts of every clause), Cursor (the number cursor by calls of any budgets), Walk (the reader from `new` by `moved`).
--- Every name in capitals is proved in proofs/ under the same name.
+-- What the project claims beyond single functions, each a few plain lines about the public calls. Read in this order:
+--     Cursor     the number cursor by calls of any budgets lists what the list functions list
+--     Walk       the reader from `new` by `moved` comes to each block
+-- and the crate of examples: the twelve examples and the worked facts of every clause of the definitions. proofs/ proves each claim under its name
+-- in small letters.
 pub mod Cursor
+pub mod Walk
