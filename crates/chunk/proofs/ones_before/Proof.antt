@@ -27,7 +27,8 @@ lesser-requires c κs = search needs
 
 returns-2 : tie.Need-returns-2
 returns-2 c = let a = c .before .before .before .before .before .before .args in
-    c .lesser .ensures ∙ (rw (c .before .run-length .ensures) (sym (onesBefore-run (a .w) (a .room) (omega arith) (omega arith))))
+    c .lesser .ensures
+    ∙ (rw (c .before .run-length .ensures) (sym (onesBefore-run (a .w) (a .room) (omega arith) (omega arith))))
 
 lesser-requires-2 : tie.Need-lesser-requires-2
 lesser-requires-2 c κs = search needs

@@ -16,10 +16,12 @@ place-bit-requires : tie.Need-place-bit-requires
 place-bit-requires c κs = search needs
 
 returns : tie.Need-returns
-returns c = let a = c .before .before .before .args in c .run-bit .ensures ∙ sym (value-run (a .w) (a .q) (omega arith))
+returns c = let a = c .before .before .before .args in
+    c .run-bit .ensures ∙ sym (value-run (a .w) (a .q) (omega arith))
 
 returns-2 : tie.Need-returns-2
-returns-2 c = let a = c .before .before .before .args in c .place-bit .ensures ∙ sym (value-vector (a .w) (a .q) (omega arith))
+returns-2 c = let a = c .before .before .before .args in
+    c .place-bit .ensures ∙ sym (value-vector (a .w) (a .q) (omega arith))
 
 pub value-spec : {M : Type 1} → statement M
 value-spec =

@@ -25,7 +25,8 @@ returns : tie.Need-returns
 returns c = let m = c .before in
     let w = m .before .before in
     let a = w .before .before .args in
-    turned-away (wordBytes (a .c)) (a .out .now) (m .made .given .0 .0) (ap bytesOfMade (sym (w .word-of .ensures) ∙ m .made .given .1))
+    turned-away (wordBytes (a .c)) (a .out .now) (m .made .given .0 .0)
+    (ap bytesOfMade (sym (w .word-of .ensures) ∙ m .made .given .1))
 
 same-length : tie.Need-same-length
 same-length c = search needs
@@ -36,15 +37,16 @@ returns-2 c = let p = c .before .before in
     let w = m .before .before in
     let a = w .before .before .args in
     let x = m .made2 .given .0 .0 in
-    listed (wordBytes (a .c)) (a .out .now) (two x) (p .put16 .last .0) 2 (ap bytesOfMade (sym (w .word-of .ensures) ∙ m .made2 .given .1)) refl
-    (omega arith) (p .put16 .ensures ∙ sets-eq (two x) (a .out .now) 0 (omega arith))
+    listed (wordBytes (a .c)) (a .out .now) (two x) (p .put16 .last .0) 2
+    (ap bytesOfMade (sym (w .word-of .ensures) ∙ m .made2 .given .1)) (omega arith)
+    (refl, p .put16 .ensures ∙ sets-eq (two x) (a .out .now) 0 (omega arith))
 
 returns-3 : tie.Need-returns-3
 returns-3 c = let m = c .before .before in
     let w = m .before .before in
     let a = w .before .before .args in
-    full (wordBytes (a .c)) (a .out .now) (two (m .made2 .given .0 .0)) 2 (ap bytesOfMade (sym (w .word-of .ensures) ∙ m .made2 .given .1)) refl
-    (omega arith)
+    full (wordBytes (a .c)) (a .out .now) (two (m .made2 .given .0 .0)) 2
+    (ap bytesOfMade (sym (w .word-of .ensures) ∙ m .made2 .given .1)) refl (omega arith)
 
 pub write-chunk-spec : {M : Type 1} → statement M
 write-chunk-spec =

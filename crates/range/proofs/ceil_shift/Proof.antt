@@ -10,7 +10,7 @@ use Rattle.range.proofs.ceil_shift.Statement.{statement}
 use Rattle.range.proofs.ceil_shift.Tie as tie
 
 returns : tie.Need-returns
-returns c = sym (ceil-zero (c .before .args .a) (2 ^ c .before .args .t) (pow-pos (c .before .args .t)) (c .if1 .taken))
+returns c = let a = c .before .args in sym (ceil-zero (a .a) (2 ^ a .t) (pow-pos (a .t)) (c .if1 .taken))
 
 returns-2 : tie.Need-returns-2
 returns-2 c = let a = c .before .before .args in

@@ -13,7 +13,8 @@ cast-result : tie.Need-cast-result
 cast-result c = search needs
 
 returns : tie.Need-returns
-returns c = let a = c .before .args in ap (λ (n : ℕ). n % 65536) (c .times-two-to .ensures) ∙ doubledOf-wide (a .x) (a .t)
+returns c = let a = c .before .args in
+    ap (λ (n : ℕ). n % 65536) (c .times-two-to .ensures) ∙ doubledOf-wide (a .x) (a .t)
 
 pub doubled-spec : {M : Type 1} → statement M
 doubled-spec = tie.close (tie.spec times-two-to-requires cast-result returns)

@@ -1,4 +1,4 @@
--- `range::times_two_to` meets its contract: a shift by less than 64 is the product; by more nothing is left. Assumes nothing.
+-- `range::times_two_to` meets its contract: a shift by less than 64 is the product; by more, nothing. Assumes nothing.
 use mathlib.Core.Path.{sym}
 use borrow.Author.Needs.{needs}
 use Rattle.range.proofs.SequenceLaws.{shl-away}

@@ -7,10 +7,12 @@ use Rattle.range.proofs.xr_offset_sequence.Statement.{statement}
 use Rattle.range.proofs.xr_offset_sequence.Tie as tie
 
 -- the number that is tested is the definition's
-sum : (c : tie.After-passes) → let a = c .before .before .before .args in c .before .wrapping-add-u16 .result ≡ sequenceOf (a .seq) (a .start) (a .thinning)
+sum : (c : tie.After-passes) → let a = c .before .before .before .args in
+    c .before .wrapping-add-u16 .result ≡ sequenceOf (a .seq) (a .start) (a .thinning)
 sum c = rw (← c .before .before .doubled .ensures) (c .before .wrapping-add-u16 .ensures)
 
-tested : (c : tie.After-passes) → let a = c .before .before .before .args in passes (a .start) (a .end) (sequenceOf (a .seq) (a .start) (a .thinning)) ≡ c .passes .result
+tested : (c : tie.After-passes) → let a = c .before .before .before .args in
+    passes (a .start) (a .end) (sequenceOf (a .seq) (a .start) (a .thinning)) ≡ c .passes .result
 tested c = rw (← sum c) (sym (c .passes .ensures))
 
 doubled-requires : tie.Need-doubled-requires

@@ -1,25 +1,36 @@
--- `rle::count_standard` meets its contract: what is counted and what is still to be listed make up the whole, for every range with as many positions inside. Assumes nothing.
+-- `rle::count_standard` meets its contract: what is counted and what is still to be listed make up the whole, for every
+-- range with as many positions inside. Assumes nothing.
 use Prim.Native.Nat.{ℕ, _+_, _-_, _≤_, _<_}
 use mathlib.Core.Path.{_≡_, ap, _∙_}
+use mathlib.Core.List.{List}
 use native.Mathlib.Omega.{arith}
 use borrow.Author.Needs.{needs}
+use borrow.Author.Tests.{le-leb, lt-leb}
+use lib.Dec.{leb}
 use lib.ListN.{length}
+use Rattle.laws.proofs.Filling.{Counting}
 use Rattle.def_wire.specs.Bytes.{words16, be16}
 use Rattle.def_standard.specs.declared.Range.{Range}
 use Rattle.def_standard.specs.Chunks.{coversOf}
+use Rattle.def_standard.specs.Range.{numberOf}
 use Rattle.def_standard.specs.Standard.{numbersOf}
 use Rattle.range.specs.Inside.{insideCount}
+use Rattle.range.specs.Steps.{stepOf}
 use Rattle.range.proofs.InsideLaws.{inside-count-le}
 use Rattle.rle.proofs.NumbersLaws.{length-numbers}
-use Rattle.chunk.specs.Ones.{onesBefore}
-use Rattle.rle.proofs.StandardTurn.{here, here-start, here-end, count-room, count-last, count-next}
+use Rattle.rle.proofs.WordLaws.{length-ones}
+use Rattle.rle.proofs.Turn.{Turn, count-room, count-last, count-next}
+use Rattle.rle.proofs.StandardTurn.{here, added, here-start, here-end, count-turn}
 use Rattle.rle.proofs.count_standard.Statement.{statement}
 use Rattle.rle.proofs.count_standard.Tie as tie
 
+-- n are counted of a range that has `left` positions inside from here on
+abbrev Counts : Range → List ℕ → ℕ → ℕ → ℕ → Type 0
+Counts g bytes left at n = (left ≤ insideCount g) × Counting (numbersOf g (words16 bytes)) (here g bytes at left) n
+
 abbrev Inv-loop : tie.InvT-loop
 Inv-loop bytes left₀ at₀ n₀ left at n =
-    (at ≤ length bytes)
-    × ((g : Range) → left₀ ≡ insideCount g → (left ≤ insideCount g) × (n + length (here g bytes at left) ≡ length (numbersOf g (words16 bytes))))
+    (at ≤ length bytes) × ((g : Range) → left₀ ≡ insideCount g → Counts g bytes left at n)
 
 abbrev μ-loop : tie.MeasureT-loop
 μ-loop bytes left₀ at₀ n₀ left at n = length bytes - at
@@ -32,22 +43,35 @@ entry l = l .before .before .before
 abbrev word : tie.At-loop Inv-loop μ-loop → ℕ
 word l = be16 (entry l .args .bytes .now) (l .loop .at)
 
--- as many are counted as it adds
-more : (c : tie.After-ones-before Inv-loop μ-loop)
-    → let l = c .before .before .before .before .before in c .ones-before .result ≡ length (onesBefore (word l) (l .loop .left))
-more c = let l = c .before .before .before .before .before in
-    c .ones-before .ensures ∙ ap (λ (w : ℕ). length (onesBefore w (l .loop .left))) (c .before .pair .ensures)
-
--- the range's own invariant
-own : (l : tie.At-loop Inv-loop μ-loop) → let g = entry l .args .g in
-    (l .loop .left ≤ insideCount g) × (l .loop .n + length (here g (entry l .args .bytes .now) (l .loop .at) (l .loop .left)) ≡ length (numbersOf g (words16 (entry l .args .bytes .now))))
+-- the range's own count
+own : (l : tie.At-loop Inv-loop μ-loop) → Counts (entry l .args .g) (entry l .args .bytes .now) (l .loop .left) (l .loop .at) (l .loop .n)
 own l = l .loop .inv .1 (entry l .args .g) (l .before .inside-count .ensures)
+
+-- the word's turn, and as many as it adds
+module _ (c : tie.After-ones-before Inv-loop μ-loop) (g : Range) where
+  abbrev head : tie.At-loop Inv-loop μ-loop
+  head = c .before .before .before .before .before
+
+  abbrev next : ℕ
+  next = numberOf g (insideCount g - head .loop .left)
+
+  here-turn : head .loop .left ≤ insideCount g
+      → Turn (here g (entry head .args .bytes .now) (head .loop .at) (head .loop .left)) (added g (word head) (head .loop .left) next)
+      (leb (head .loop .left) (coversOf (word head)))
+      (here g (entry head .args .bytes .now) (head .loop .at + 2) (head .loop .left - coversOf (word head)))
+  here-turn low =
+      count-turn g (entry head .args .bytes .now) (head .loop .at) (head .loop .left) low (c .before .before .before .before .loop-test .taken)
+
+  more : c .ones-before .result ≡ length (added g (word head) (head .loop .left) next)
+  more = rw (← c .before .pair .ensures) (c .ones-before .ensures ∙ length-ones (stepOf (g .thinning)) next (head .loop .left) (c .before .pair .result))
 
 inside-count-requires : tie.Need-inside-count-requires Inv-loop μ-loop
 inside-count-requires c κs = search needs
 
 loop-holds : tie.Need-loop-holds Inv-loop μ-loop
-loop-holds c = (omega arith, λ g e. (omega (arith, e), rw (e, ← here-start g (c .before .before .args .bytes .now)) (omega arith)))
+loop-holds c =
+    (omega arith,
+    λ g e. (omega (arith, e), rw (e, ← here-start g (c .before .before .args .bytes .now)) (record { count = omega arith })))
 
 add-loop : tie.Need-add-loop Inv-loop μ-loop
 add-loop c = search needs
@@ -69,10 +93,9 @@ ones-before-requires c κs = search needs
 
 add-n : tie.Need-add-n Inv-loop μ-loop
 add-n c = let l = c .before .before .before .before .before in
-    let s = entry l in
-    let g = s .args .g in
-    let k = count-room g (s .args .bytes .now) (l .loop .at) (l .loop .left) (own l .0) (omega (arith, c .before .before .before .before .loop-test .taken)) (l .loop .n) (c .ones-before .result) (length (numbersOf g (words16 (s .args .bytes .now)))) (more c) (own l .1) in
-    omega (arith, k, length-numbers g (words16 (s .args .bytes .now)), inside-count-le g)
+    let g = entry l .args .g in
+    let k = count-room (here-turn c g (own l .0)) (own l .1) (more c g) in
+    omega (arith, k, length-numbers g (words16 (entry l .args .bytes .now)), inside-count-le g)
 
 covers-requires : tie.Need-covers-requires Inv-loop μ-loop
 covers-requires c κs = search needs
@@ -83,10 +106,9 @@ cast-covered c = search needs
 returns : tie.Need-returns Inv-loop μ-loop
 returns c = let o = c .before .before in
     let l = o .before .before .before .before .before in
-    let s = entry l in
-    let g = s .args .g in
+    let g = entry l .args .g in
     let e : l .loop .left ≤ coversOf (word l) = rw (← o .before .pair .ensures, ← c .before .covers .ensures) (c .if1 .taken) in
-    count-last g (s .args .bytes .now) (l .loop .at) (l .loop .left) (own l .0) (omega (arith, o .before .before .before .before .loop-test .taken)) (l .loop .n) (o .ones-before .result) (length (numbersOf g (words16 (s .args .bytes .now)))) (more o) (own l .1) e
+    count-last (here-turn o g (own l .0)) (own l .1) (more o g) (le-leb _ _ e)
 
 sub-left : tie.Need-sub-left Inv-loop μ-loop
 sub-left c = search needs
@@ -100,23 +122,17 @@ loop-less c = search needs
 loop-again : tie.Need-loop-again Inv-loop μ-loop
 loop-again c = let o = c .before .before in
     let l = o .before .before .before .before .before in
-    let s = entry l in
     let cov : c .before .covers .result ≡ coversOf (word l) = c .before .covers .ensures ∙ ap coversOf (o .before .pair .ensures) in
-    let e : coversOf (word l) < l .loop .left = rw (← cov) (c .if1 .left) in (
-      omega arith,
-      λ g z. let i = l .loop .inv .1 g z in (
-        omega (arith, i .0),
-        rw cov
-            (count-next g (s .args .bytes .now) (l .loop .at) (l .loop .left) (i .0) (omega (arith, o .before .before .before .before .loop-test .taken)) (l .loop .n) (o .ones-before .result) (length (numbersOf g (words16 (s .args .bytes .now)))) (more o) (i .1) e),
-      ),
-    )
+    let e : coversOf (word l) < l .loop .left = rw (← cov) (c .if1 .left) in
+    (omega arith,
+    λ g z. let i = l .loop .inv .1 g z in
+    (omega (arith, i .0), rw cov (count-next (here-turn o g (i .0)) (i .1) (more o g) (lt-leb _ _ e))))
 
 returns-2 : tie.Need-returns-2 Inv-loop μ-loop
 returns-2 c = let l = c .before in
-    let s = entry l in
-    let g = s .args .g in
-    let k = here-end g (s .args .bytes .now) (l .loop .at) (l .loop .left) (omega (arith, c .loop-test .left)) in
-    omega (arith, ap length k, own l .1)
+    let a = entry l .args in
+    let k = here-end (a .g) (a .bytes .now) (l .loop .at) (l .loop .left) (c .loop-test .left) in
+    omega (arith, ap length k, own l .1 .count)
 
 pub count-standard-spec : {M : Type 1} → statement M
 count-standard-spec =

@@ -1,4 +1,5 @@
--- `rle::fill_standard` meets its contract: there is room for all that are inside, or for as many as were counted; else it is refused. Assumes nothing.
+-- `rle::fill_standard` meets its contract: there is room for all that are inside, or for as many as were counted; else it
+-- is refused. Assumes nothing.
 use Rattle.rle.proofs.NumbersLaws.{length-numbers}
 use Rattle.laws.proofs.Answering.{listed, full}
 use Rattle.def_standard.specs.Standard.{numbersOf}
@@ -14,7 +15,8 @@ use Rattle.rle.proofs.fill_standard.Statement.{statement}
 use Rattle.rle.proofs.fill_standard.Tie as tie
 
 -- there is room: for all that are inside, or for as many as were counted
-room : (c : tie.Joined1) → let a = c .before .before .before .before .args in length (numbersOf (a .g) (words16 (a .bytes .now))) ≤ length (a .out .now)
+room : (c : tie.Joined1) → let a = c .before .before .before .before .args in
+    length (numbersOf (a .g) (words16 (a .bytes .now))) ≤ length (a .out .now)
 room c = let v = c .before in
     let a = v .before .before .before .args in
     ⊎-elim
@@ -45,7 +47,7 @@ returns-2 c = let r = c .before .before in
     let j = r .before .before in
     let a = j .before .before .before .before .args in
     let whole = numbersOf (a .g) (words16 (a .bytes .now)) in
-    listed (shown whole) (a .out .now) whole _ _ refl (r .list-standard .ensures .0) (room j) (r .list-standard .ensures .1)
+    listed (shown whole) (a .out .now) whole _ _ refl (room j) (r .list-standard .ensures)
 
 pub fill-standard-spec : {M : Type 1} → statement M
 fill-standard-spec =

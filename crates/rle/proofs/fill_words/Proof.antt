@@ -22,7 +22,8 @@ returns c = let r = c .before .before in
     let n = r .before .before .before in
     let a = n .before .before .before .args in
     let whole = words16 (a .bytes .now) in
-    listed (shown whole) (a .out .now) whole _ _ refl (r .list-words .ensures .0) (omega (arith, n .count-words .ensures, r .before .before .if1 .taken)) (r .list-words .ensures .1)
+    let k = r .before .before .if1 .taken in
+    listed (shown whole) (a .out .now) whole _ _ refl (omega (arith, n .count-words .ensures, k)) (r .list-words .ensures)
 
 returns-2 : tie.Need-returns-2
 returns-2 c = let a = c .before .before .before .before .args in

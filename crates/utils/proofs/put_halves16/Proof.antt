@@ -33,7 +33,8 @@ same-length-2 : tie.Need-same-length-2
 same-length-2 c = search needs
 
 returns-2 : tie.Need-returns-2
-returns-2 c = let a = c .before .before .args in sym (sets-last (a .out .now) (a .at) _ _ (simp length-set at (c .if2 .left)))
+returns-2 c = let a = c .before .before .args in
+    sym (sets-last (a .out .now) (a .at) _ _ (simp length-set at (c .if2 .left)))
 
 returns-3 : tie.Need-returns-3
 returns-3 c = let a = c .before .args in sym (sets-out (a .out .now) (a .at) (two (a .x)) (c .if1 .left))

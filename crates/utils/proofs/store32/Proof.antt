@@ -26,7 +26,8 @@ returns : tie.Need-returns
 returns c = let k = c .before .before in
     let f = k .before .before .before .before in
     let a = f .before .before .before .args in
-    sets-four (a .out .now) (f .store16 .last .0) (k .store162 .last .0) (a .at) (a .x) (f .store16 .ensures) (k .store162 .ensures)
+    sets-four (a .out .now) (f .store16 .last .0) (k .store162 .last .0) (a .at) (a .x) (f .store16 .ensures)
+    (k .store162 .ensures)
 
 pub store32-spec : {M : Type 1} → statement M
 store32-spec =

@@ -26,7 +26,8 @@ returns : tie.Need-returns
 returns c = let k = c .before .before in
     let f = k .before .before .before .before in
     let a = f .before .before .before .args in
-    sets-eight (a .out .now) (f .store32 .last .0) (k .store322 .last .0) (a .at) (a .x) (f .store32 .ensures) (k .store322 .ensures)
+    sets-eight (a .out .now) (f .store32 .last .0) (k .store322 .last .0) (a .at) (a .x) (f .store32 .ensures)
+    (k .store322 .ensures)
 
 pub store64-spec : {M : Type 1} → statement M
 store64-spec =

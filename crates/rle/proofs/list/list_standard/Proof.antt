@@ -1,26 +1,29 @@
--- `rle::list::list_standard` meets its contract: the loop fills from the front, with `left` positions still inside. Assumes nothing.
-use Prim.Native.Nat.{ℕ, _-_, _^_, _≤_, _<_}
+-- `rle::list::list_standard` meets its contract: the loop fills from the front, with `left` positions still inside.
+-- Assumes nothing.
+use Prim.Native.Nat.{ℕ, _+_, _-_, _^_, _≤_, _<_}
 use mathlib.Core.List.{List}
 use mathlib.Core.Path.{_≡_, ap, _∙_}
 use native.Mathlib.Nat.{one-mul}
 use native.Mathlib.Omega.{arith}
 use borrow.Author.Needs.{needs}
-use lib.ListN.{length, take}
+use borrow.Author.Tests.{le-leb, lt-leb}
+use lib.Dec.{leb}
+use lib.ListN.{length}
 use Rattle.def_wire.specs.Bytes.{words16, be16}
-use Rattle.def_standard.specs.Chunks.{coversOf, valuesIn}
+use Rattle.def_standard.specs.Chunks.{coversOf}
 use Rattle.def_standard.specs.Standard.{numbersOf}
-use Rattle.laws.proofs.Filling.{Filling, start, skip, room-for, done}
-use Rattle.laws.proofs.Stores.{Wrote}
-use Rattle.rle.proofs.Writing.{wrote, wrote-last}
-use Rattle.rle.specs.Along.{along}
+use Rattle.laws.specs.Stores.{Wrote}
+use Rattle.laws.proofs.Filling.{Filling, start, skip, done}
 use Rattle.range.specs.Steps.{stepOf}
-use Rattle.rle.proofs.StandardTurn.{Standing, here, begin-standing, here-start, here-end, here-word, here-last, here-next, next-standing}
+use Rattle.rle.proofs.Turn.{Turn, fill-room, fill-last, fill-next}
+use Rattle.rle.proofs.StandardTurn.{Standing, here, added, begin-standing, next-standing, here-start, here-end, turn}
 use Rattle.rle.proofs.list.list_standard.Statement.{statement}
 use Rattle.rle.proofs.list.list_standard.Tie as tie
 
 abbrev Inv-loop : tie.InvT-loop
 Inv-loop bytes g out₀ step left₀ first₀ at₀ n₀ out left first at n =
-    (at ≤ length bytes) × Standing g left first × Filling (numbersOf g (words16 bytes)) out₀ out (here g bytes at left) n
+    (at ≤ length bytes) × Standing g left first
+    × Filling (numbersOf g (words16 bytes)) out₀ out (here g bytes at left) n
 
 abbrev μ-loop : tie.MeasureT-loop
 μ-loop bytes g out₀ step left₀ first₀ at₀ n₀ out left first at n = length bytes - at
@@ -38,15 +41,21 @@ abbrev word : tie.At-loop Inv-loop μ-loop → ℕ
 word l = be16 (entry l .args .bytes .now) (l .loop .at)
 
 -- the numbers that it adds
-abbrev added : tie.At-loop Inv-loop μ-loop → List ℕ
-added l = along (stepOf (entry l .args .g .thinning)) (l .loop .first) (take (l .loop .left) (valuesIn (word l)))
+abbrev numbers : tie.At-loop Inv-loop μ-loop → List ℕ
+numbers l = added (entry l .args .g) (word l) (l .loop .left) (l .loop .first)
 
 -- they were stored
-stored : (c : tie.After-store-word Inv-loop μ-loop)
-    → let l = c .before .before .before .before .before .before in Wrote (l .loop .out) (l .loop .n) (added l) (c .store-word .last .0) (c .store-word .result)
-stored c =
-    let l = c .before .before .before .before .before .before in
+stored : (c : tie.After-store-word Inv-loop μ-loop) → let l = c .before .before .before .before .before .before in
+    Wrote (l .loop .out) (l .loop .n) (numbers l) (c .store-word .last .0) (c .store-word .result)
+stored c = let l = c .before .before .before .before .before .before in
     rw (← stepped l, ← c .before .before .pair .ensures) (c .store-word .ensures)
+
+-- the word's turn
+here-turn : (i : tie.In-loop Inv-loop μ-loop) → let l = i .before in let a = entry l .args in
+    Turn (here (a .g) (a .bytes .now) (l .loop .at) (l .loop .left)) (numbers l) (leb (l .loop .left) (coversOf (word l)))
+    (here (a .g) (a .bytes .now) (l .loop .at + 2) (l .loop .left - coversOf (word l)))
+here-turn i = let l = i .before in let a = entry l .args in
+    turn (a .g) (a .bytes .now) (l .loop .at) (l .loop .left) (l .loop .first) (l .loop .inv .1) (i .loop-test .taken)
 
 doubled-requires : tie.Need-doubled-requires Inv-loop μ-loop
 doubled-requires c κs = search needs
@@ -57,7 +66,8 @@ inside-count-requires c κs = search needs
 loop-holds : tie.Need-loop-holds Inv-loop μ-loop
 loop-holds c = let s = c .before .before .before .before in
     let g = s .args .g in
-    (omega arith, rw (c .inside-count .ensures) (begin-standing g (search needs)), rw (c .inside-count .ensures) (skip (here-start g (s .args .bytes .now)) (start (s .pre))))
+    let k = c .inside-count .ensures in
+    (omega arith, rw k (begin-standing g (search needs)), rw k (skip (here-start g (s .args .bytes .now)) (start (omega arith))))
 
 add-loop : tie.Need-add-loop Inv-loop μ-loop
 add-loop c = search needs
@@ -76,11 +86,8 @@ pair-requires c κs = search needs
 
 store-word-requires : tie.Need-store-word-requires Inv-loop μ-loop
 store-word-requires c κs = let p = c .before in
-    let l = p .before .before .before .before in
-    let s = entry l in
-    let h = p .before .before .before .loop-test .taken in
-    let e = here-word (s .args .g) (s .args .bytes .now) (l .loop .at) (l .loop .left) (l .loop .first) (l .loop .inv .1) h in
-    rw (stepped l, p .pair .ensures) (room-for (added l) _ e (l .loop .inv .2))
+    let i = p .before .before .before in
+    rw (stepped (i .before), p .pair .ensures) (fill-room (here-turn i) (i .before .loop .inv .2))
 
 covers-requires : tie.Need-covers-requires Inv-loop μ-loop
 covers-requires c κs = search needs
@@ -93,11 +100,11 @@ same-length c = search needs
 
 returns : tie.Need-returns Inv-loop μ-loop
 returns c = let w = c .before .before .before .before in
-    let l = w .before .before .before .before .before .before in
-    let s = entry l in
-    let h = w .before .before .before .before .before .loop-test .taken in
-    let k : l .loop .left ≤ coversOf (word l) = rw (← w .before .before .pair .ensures, ← c .before .covers .ensures) (c .if1 .taken) in
-    wrote-last (here-last (s .args .g) (s .args .bytes .now) (l .loop .at) (l .loop .left) (l .loop .first) (l .loop .inv .1) h k) (stored w) (l .loop .inv .2)
+    let i = w .before .before .before .before .before in
+    let l = i .before in
+    let k : l .loop .left ≤ coversOf (word l) =
+    rw (← w .before .before .pair .ensures, ← c .before .covers .ensures) (c .if1 .taken) in
+    fill-last (here-turn i) (l .loop .inv .2) (stored w) (le-leb _ _ k)
 
 cast-left : tie.Need-cast-left Inv-loop μ-loop
 cast-left c = search needs
@@ -117,15 +124,14 @@ loop-less c = search needs
 loop-again : tie.Need-loop-again Inv-loop μ-loop
 loop-again c = let v = c .before .before in
     let w = v .before .before .before in
-    let l = w .before .before .before .before .before .before in
-    let s = entry l in
-    let h = w .before .before .before .before .before .loop-test .taken in
+    let i = w .before .before .before .before .before in
+    let l = i .before in
     let cov : v .covers .result ≡ coversOf (word l) = v .covers .ensures ∙ ap coversOf (w .before .before .pair .ensures) in
-    let k : coversOf (word l) < l .loop .left = rw (← cov) (c .before .if1 .left) in (
-      omega arith,
-      rw (c .moved-by .ensures, cov) (next-standing (s .args .g) (l .loop .left) (l .loop .first) (coversOf (word l)) k (l .loop .inv .1)),
-      rw cov (wrote (here-next (s .args .g) (s .args .bytes .now) (l .loop .at) (l .loop .left) (l .loop .first) (l .loop .inv .1) h k) (stored w) (l .loop .inv .2)),
-    )
+    let k : coversOf (word l) < l .loop .left = rw (← cov) (c .before .if1 .left) in
+    let g = entry l .args .g in
+    (omega arith,
+    rw (c .moved-by .ensures, cov) (next-standing g (l .loop .left) (l .loop .first) (coversOf (word l)) k (l .loop .inv .1)),
+    rw cov (fill-next (here-turn i) (l .loop .inv .2) (stored w) (lt-leb _ _ k)))
 
 same-length-2 : tie.Need-same-length-2 Inv-loop μ-loop
 same-length-2 c = search needs

@@ -5,7 +5,7 @@ use borrow.Author.Needs.{needs}
 use lib.ListN.{length, drop}
 use Rattle.def_wire.specs.Bytes.{words16}
 use Rattle.laws.proofs.Filling.{Filling, start, within, put, done}
-use Rattle.utils.proofs.BytesLaws.{pairUp-cons, pairUp-end}
+use Rattle.rle.proofs.Turn.{words-cons, words-end}
 use Rattle.rle.proofs.list.list_words.Statement.{statement}
 use Rattle.rle.proofs.list.list_words.Tie as tie
 
@@ -17,7 +17,7 @@ abbrev μ-loop : tie.MeasureT-loop
 μ-loop bytes out₀ at₀ n₀ out at n = length bytes - at
 
 loop-holds : tie.Need-loop-holds Inv-loop μ-loop
-loop-holds c = (omega arith, omega arith, start (c .before .before .pre))
+loop-holds c = (omega arith, omega arith, start (omega arith))
 
 add-loop : tie.Need-add-loop Inv-loop μ-loop
 add-loop c = search needs
@@ -40,7 +40,7 @@ mul-out c = search needs
 slice-write-out : tie.Need-slice-write-out Inv-loop μ-loop
 slice-write-out c = let l = c .before .before .before .before in
     let a = l .before .before .before .args in
-    within (pairUp-cons 256 (a .bytes .now) (l .loop .at) (omega (arith, c .before .before .before .loop-test .taken))) (l .loop .inv .2)
+    within (words-cons (a .bytes .now) (l .loop .at) (c .before .before .before .loop-test .taken)) (l .loop .inv .2)
 
 add-n : tie.Need-add-n Inv-loop μ-loop
 add-n c = search needs
@@ -54,7 +54,8 @@ loop-less c = search needs
 loop-again : tie.Need-loop-again Inv-loop μ-loop
 loop-again c = let l = c .before .before .before .before in
     let a = l .before .before .before .args in
-    (omega arith, omega arith, rw (c .pair .ensures) (put (pairUp-cons 256 (a .bytes .now) (l .loop .at) (omega (arith, c .before .before .before .loop-test .taken))) (l .loop .inv .2)))
+    let e = words-cons (a .bytes .now) (l .loop .at) (c .before .before .before .loop-test .taken) in
+    (omega arith, omega arith, rw (c .pair .ensures) (put e (l .loop .inv .2)))
 
 same-length : tie.Need-same-length Inv-loop μ-loop
 same-length c = search needs
@@ -62,7 +63,7 @@ same-length c = search needs
 returns : tie.Need-returns Inv-loop μ-loop
 returns c = let l = c .before in
     let a = l .before .before .before .args in
-    done (pairUp-end 256 (a .bytes .now) (l .loop .at) (c .loop-test .left)) (l .loop .inv .2)
+    done (words-end (a .bytes .now) (l .loop .at) (c .loop-test .left)) (l .loop .inv .2)
 
 pub list-words-spec : {M : Type 1} → statement M
 list-words-spec =

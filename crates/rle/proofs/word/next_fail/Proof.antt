@@ -9,7 +9,9 @@ use Rattle.rle.proofs.word.next_fail.Tie as tie
 returns : tie.Need-returns
 returns c = let s = c .before .before in
     let a = s .args in
-    rw (s .pre .1) (c .before .if1 .taken ∙ sym (next-never (a .start) (a .end) (a .thinning) (a .covered) (omega arith) (omega arith) (c .if2 .taken) (sym (s .pre .0) ∙ c .before .if1 .taken)))
+    let n = c .before .if1 .taken in
+    let k = next-never (a .start) (a .end) (a .thinning) (a .covered) (omega arith) (omega arith) in
+    rw (s .pre .1) (n ∙ sym (k (c .if2 .taken) (sym (s .pre .0) ∙ n)))
 
 first-fail-requires : tie.Need-first-fail-requires
 first-fail-requires c κs = search needs
@@ -23,7 +25,9 @@ sub-result c = search needs
 returns-3 : tie.Need-returns-3
 returns-3 c = let s = c .before .before in
     let a = s .args in
-    rw (s .pre .1, s .pre .0) (next-less (a .start) (a .end) (a .thinning) (a .covered) (omega arith) (omega arith) (omega (arith, s .pre .0, c .if3 .taken)) (λ n. c .before .if1 .left (s .pre .0 ∙ n)))
+    let k = next-less (a .start) (a .end) (a .thinning) (a .covered) (omega arith) (omega arith) in
+    rw (s .pre .1, s .pre .0)
+    (k (omega (arith, s .pre .0, c .if3 .taken)) (λ n. c .before .if1 .left (s .pre .0 ∙ n)))
 
 first-fail-requires-2 : tie.Need-first-fail-requires-2
 first-fail-requires-2 c κs = search needs

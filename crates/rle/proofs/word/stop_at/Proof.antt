@@ -19,7 +19,8 @@ returns : tie.Need-returns
 returns c = let v = c .before in
     let s = v .before in
     let a = s .args in
-    let k : coversOf (a .w) ≤ firstFail (a .start) (a .end) (a .thinning) = omega (arith, v .covers .ensures, s .pre, c .if1 .taken) in
+    let k : coversOf (a .w) ≤ firstFail (a .start) (a .end) (a .thinning) =
+    omega (arith, v .covers .ensures, s .pre, c .if1 .taken) in
     v .covers .ensures ∙ sym (stop-clear (a .start) (a .end) (a .thinning) (a .w) (omega arith) (omega arith) k)
 
 returns-2 : tie.Need-returns-2
@@ -32,8 +33,10 @@ returns-3 c = let e = c .before in
     let v = e .before .before in
     let s = v .before in
     let a = s .args in
-    let k : firstFail (a .start) (a .end) (a .thinning) < coversOf (a .w) = omega (arith, v .covers .ensures, s .pre, e .before .if1 .left) in
-    s .pre ∙ sym (stop-ones (a .start) (a .end) (a .thinning) (a .w) (omega arith) (omega arith) (e .if2 .left) (c .if3 .taken) k)
+    let k : firstFail (a .start) (a .end) (a .thinning) < coversOf (a .w) =
+    omega (arith, v .covers .ensures, s .pre, e .before .if1 .left) in
+    s .pre
+    ∙ sym (stop-ones (a .start) (a .end) (a .thinning) (a .w) (omega arith) (omega arith) (e .if2 .left) (c .if3 .taken) k)
 
 stop-in-vector-requires : tie.Need-stop-in-vector-requires
 stop-in-vector-requires c κs = search needs

@@ -1,4 +1,5 @@
--- `rle::word::store_vector` meets its contract: what is still to be stored are the numbers of the ones left in v. Assumes nothing.
+-- `rle::word::store_vector` meets its contract: what is still to be stored are the numbers of the ones left in v. Assumes
+-- nothing.
 use Prim.Native.Nat.{_+_, _-_, _%_, _^_, _*_, _<_}
 use mathlib.Core.List.{_∷_}
 use mathlib.Core.Path.{_≡_, ap}
@@ -9,7 +10,7 @@ use lib.Pow.{shr-lt, pow-pos}
 use Rattle.def_standard.specs.Chunks.{valuesIn}
 use Rattle.rle.specs.Along.{along}
 use Rattle.rle.proofs.DigitLaws.{digits, digits-vector, top-below, along-none, along-top}
-use Rattle.rle.proofs.Storing.{Storing, start, skip, within, put, done}
+use Rattle.laws.proofs.Filling.{Storing, start, skip, within, put, ended}
 use Rattle.rle.proofs.word.store_vector.Statement.{statement}
 use Rattle.rle.proofs.word.store_vector.Tie as tie
 
@@ -23,13 +24,16 @@ abbrev μ-loop : tie.MeasureT-loop
 -- the highest one comes next
 next : (c : tie.After-top-bit Inv-loop μ-loop) → let l = c .before .before in let a = l .before .before .before .args in
     along (a .step) (a .first) (digits (a .room) (l .loop .v))
-    ≡ (a .first + (a .room - 1 - c .top-bit .result) * a .step) % 65536 ∷ along (a .step) (a .first) (digits (a .room) (l .loop .v - 2 ^ c .top-bit .result))
+    ≡ (a .first + (a .room - 1 - c .top-bit .result) * a .step) % 65536
+    ∷ along (a .step) (a .first) (digits (a .room) (l .loop .v - 2 ^ c .top-bit .result))
 next c = let l = c .before .before in let a = l .before .before .before .args in
-    along-top (a .step) (a .first) (a .room) (l .loop .v) (c .top-bit .result) (omega arith) (l .loop .inv .0) (c .top-bit .ensures)
+    let t = c .top-bit in
+    along-top (a .step) (a .first) (a .room) (l .loop .v) (t .result) (omega arith) (l .loop .inv .0) (t .ensures)
 
 -- it is one of the places asked
-asked : (c : tie.After-top-bit Inv-loop μ-loop) → let l = c .before .before in c .top-bit .result < l .before .before .before .args .room
-asked c = let l = c .before .before in top-below (l .before .before .before .args .room) (l .loop .inv .0) (c .top-bit .ensures)
+asked : (c : tie.After-top-bit Inv-loop μ-loop) → c .top-bit .result < c .before .before .before .before .before .args .room
+asked c = let l = c .before .before in
+    top-below (l .before .before .before .args .room) (l .loop .inv .0) (c .top-bit .ensures)
 
 vector-bits-requires : tie.Need-vector-bits-requires Inv-loop μ-loop
 vector-bits-requires c κs = search needs
@@ -49,11 +53,11 @@ shr-v c = search needs
 loop-holds : tie.Need-loop-holds Inv-loop μ-loop
 loop-holds c = let s = c .before .before in
     let a = s .args in
-    let e : c .vector-bits .result ≡ a .w - 32768 = omega (arith, c .vector-bits .ensures, s .pre .0) in
-    let f : a .room + (15 - a .room) ≡ 15 = omega (arith, s .pre .1) in (
-      shr-lt (a .room) (15 - a .room) (rw f (let k : c .vector-bits .result < 2 ^ 15 = omega (arith, c .vector-bits .ensures) in k)),
-      rw e (skip (ap (along (a .step) (a .first)) (digits-vector (a .w) (s .pre .0) (a .room) (s .pre .1))) (start (s .pre .2))),
-    )
+    let f : a .room + (15 - a .room) ≡ 15 = omega (arith, s .pre .1) in
+    let k : c .vector-bits .result < 2 ^ 15 = omega (arith, c .vector-bits .ensures) in
+    let e = digits-vector (a .w) (s .pre .0) (a .room) (s .pre .1) in
+    (shr-lt (a .room) (15 - a .room) (rw f k),
+    rw (c .vector-bits .ensures) (skip (ap (along (a .step) (a .first)) e) (start (s .pre .2))))
 
 top-bit-requires : tie.Need-top-bit-requires Inv-loop μ-loop
 top-bit-requires c κs = search needs
@@ -80,13 +84,14 @@ add-n : tie.Need-add-n Inv-loop μ-loop
 add-n c = omega (arith, within (next (c .before .before)) (c .before .before .before .before .loop .inv .1))
 
 loop-less : tie.Need-loop-less Inv-loop μ-loop
-loop-less c = let t = c .before .before in omega (arith, c .without-top .ensures, t .top-bit .ensures .least, pow-pos (t .top-bit .result))
+loop-less c = let t = c .before .before .top-bit in
+    omega (arith, c .without-top .ensures, t .ensures .least, pow-pos (t .result))
 
 loop-again : tie.Need-loop-again Inv-loop μ-loop
 loop-again c = let t = c .before .before in
     let l = t .before .before in
-    let f = put (next t) (l .loop .inv .1) in
-    (omega (arith, c .without-top .ensures, l .loop .inv .0), rw (c .before .number-on .ensures, c .without-top .ensures) f)
+    (omega (arith, c .without-top .ensures, l .loop .inv .0),
+    rw (c .before .number-on .ensures, c .without-top .ensures) (put (next t) (l .loop .inv .1)))
 
 same-length : tie.Need-same-length Inv-loop μ-loop
 same-length c = search needs
@@ -94,7 +99,7 @@ same-length c = search needs
 returns : tie.Need-returns Inv-loop μ-loop
 returns c = let l = c .before in
     let a = l .before .before .before .args in
-    done (rw (c .loop-test .left) (along-none (a .step) (a .first) (a .room))) (l .loop .inv .1)
+    ended (rw (c .loop-test .left) (along-none (a .step) (a .first) (a .room))) (l .loop .inv .1)
 
 pub store-vector-spec : {M : Type 1} → statement M
 store-vector-spec =
