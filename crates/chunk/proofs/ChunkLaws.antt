@@ -1,5 +1,5 @@
--- The laws of a chunk word (def_standard's Chunks): the one place that unfolds `valuesIn`, `chunkOf` and `wordOf`. Assumes
--- nothing.
+-- The laws of a chunk word (def_standard's Chunks): the one place that unfolds `valuesIn`, `chunkOf` and `wordOf`.
+-- Assumes nothing.
 --     covers-*, value-*       how many positions a word covers, and the value at a place, by its kind
 --     values-*                the values at its places, in order
 --     chunk-*, word-*         its kind, and the word of a kind
@@ -97,8 +97,8 @@ module _ (w : ℕ) where
   pub values-take-vector : (r : ℕ) → 32768 ≤ w
       → take r (valuesIn w) ≡ map (λ (q : ℕ). w / 2 ^ (14 - q) % 2) (countFrom 0 (min r 15))
   values-take-vector r h =
-      let f : ℕ → ℕ = λ (q : ℕ). w / 2 ^ (14 - q) % 2 in
-      values-take r ∙ (rw (covers-vector w h) (map-same (valueOf w) f (λ q. value-vector w q h) (countFrom 0 (min r 15))))
+      let same = map-same (valueOf w) (λ (q : ℕ). w / 2 ^ (14 - q) % 2) (λ q. value-vector w q h) in
+      values-take r ∙ (rw (covers-vector w h) (same (countFrom 0 (min r 15))))
 
 -- ---- a word's kind
 

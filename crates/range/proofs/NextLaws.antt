@@ -26,7 +26,8 @@ later q n t start = let m = 2 ^ t in
     let moved = start + n * m % 65536 in
     let a : q * m + moved ≡ q * m + start + n * m % 65536 = omega arith in
     let b : q * m + start + n * m ≡ (n + q) * m + start = omega arith in
-    rw (mod-add-mod (q * m) 65536 (moved % 65536), add-mod-mod (q * m) moved 65536, mod-add-mod ((n + q) * m) 65536 start)
+    let c = mod-add-mod ((n + q) * m) 65536 start in
+    rw (mod-add-mod (q * m) 65536 (moved % 65536), add-mod-mod (q * m) moved 65536, c)
     (ap (λ (x : ℕ). x % 65536) a ∙ add-mod-mod (q * m + start) (n * m) 65536 ∙ ap (λ (x : ℕ). x % 65536) b)
 
 -- how far end is, by cases
@@ -148,11 +149,10 @@ module _ (start end t n : ℕ) (s : start < 65536) (e : end < 65536) where
         let g = gapOf moved end in
         let far : gap ≤ first * m = ceil-far gap m (pow-pos t) first (omega arith) in
         let last : (first - 1) * m < gap = ceil-near gap m (pow-pos t) (first - 1) (omega arith) in
-        let up : ceilDiv g m ≤ first - n = ceil-above g m (pow-pos t) (first - n) (omega (arith, gap-less, less, far)) in
+        let up = ceil-above g m (pow-pos t) (first - n) (omega (arith, gap-less, less, far)) in
         let step : (first - 1 - n) * m ≡ (first - 1) * m - n * m = sub-mul (first - 1) n m in
-        let down : first - 1 - n < ceilDiv g m =
-        ceil-below g m (pow-pos t) (first - 1 - n) (omega (arith, gap-less, step, last, near)) in
-        omega arith
+        let down = ceil-below g m (pow-pos t) (first - 1 - n) (omega (arith, gap-less, step, last, near)) in
+        omega (arith, up, down)
 
     -- numbers pass again no sooner
     again-less : (first - n) * 2 ^ t < againOf moved end

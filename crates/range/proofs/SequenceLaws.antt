@@ -1,5 +1,5 @@
--- The laws of the crate's doublings and of its test of a number (def_crate's Sequence): the one place that unfolds them.
--- Assumes nothing.
+-- The laws of the crate's doublings and of its test of a number (def_crate's Sequence): the one place that unfolds
+-- them. Assumes nothing.
 use Prim.Native.Nat.{ℕ, suc, _+_, _*_, _-_, _%_, _^_, _≤_, _<_}
 use mathlib.Core.Path.{_≡_, ap, _∙_}
 use mathlib.Core.Bool.{true, false}

@@ -118,7 +118,8 @@ module _ (end t : ℕ) where
       let all : ℕ → Type 0 = λ (n : ℕ). n ≤ cond (ltb w 16384) 0 (coversOf w) + mostOf ws in
       let word = length (along (stepOf t) start (take (stopAt start end t w) (valuesIn w))) in
       rw (crate-cons start w ws h, length-append)
-      (both (λ (l : List ℕ). all (word + length l)) (ltb (stopAt start end t w) (coversOf w)) (λ _. omega arith) (λ _. omega arith))
+      (both (λ (l : List ℕ). all (word + length l)) (ltb (stopAt start end t w) (coversOf w)) (λ _. omega arith)
+      (λ _. omega arith))
 
 -- a word's part of `mostOf`, and its bound
 pub most-cons : (w : ℕ) (ws : List ℕ) → mostOf (w ∷ ws) ≡ cond (ltb w 16384) 0 (coversOf w) + mostOf ws

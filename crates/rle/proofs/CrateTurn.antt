@@ -29,7 +29,8 @@ added end t w start = along (stepOf t) start (take (stopAt start end t w) (value
 
 module _ (end t : ℕ) (bytes : List ℕ) where
   -- the count fits its type
-  pub length-here : (start : ℕ) → start < 65536 → length bytes ≤ 262144 → length (here end t bytes 0 start) ≤ 2147352576
+  pub length-here : (start : ℕ) → start < 65536 → length bytes ≤ 262144
+      → length (here end t bytes 0 start) ≤ 2147352576
   length-here start s h =
       omega (arith, length-crate end t start (words16 bytes) s, most-le (words16 bytes), length-pairUp 256 bytes)
 

@@ -1,5 +1,5 @@
--- A vector's places as the binary digits of a number, most significant first, and its ones from the highest digit down. Assumes
--- nothing.
+-- A vector's places as the binary digits of a number, most significant first, and its ones from the highest down.
+-- Assumes nothing.
 --     digits                  the k digits of a number
 --     digits-append           the first of them are those of what is left when the others are shifted out
 --     digits-vector           a vector's first places are digits
@@ -48,9 +48,10 @@ pub digits-mod : (i k v : ℕ) → i ≤ k → digits i (v % 2 ^ k) ≡ digits i
 unfolding digits
 digits-mod zero k v h = refl
 digits-mod (suc i) k v h =
-    let e : k ≡ k - i - 1 + 1 + i = omega arith in
+    let j = k - i - 1 in
+    let e : k ≡ j + 1 + i = omega arith in
     let d : v % 2 ^ k / 2 ^ i % 2 ≡ v / 2 ^ i % 2 =
-    ap (λ (x : ℕ). v % 2 ^ x / 2 ^ i % 2) e ∙ (rw (field v (k - i - 1 + 1) i) (mod-mod-pow (v / 2 ^ i) (k - i - 1) 1)) in
+    ap (λ (x : ℕ). v % 2 ^ x / 2 ^ i % 2) e ∙ (rw (field v (j + 1) i) (mod-mod-pow (v / 2 ^ i) j 1)) in
     rw (d, digits-mod i k v (omega arith))
 
 digit-low : (k v : ℕ) → v < 2 ^ k → v / 2 ^ k % 2 ≡ 0
@@ -125,7 +126,8 @@ along-first step x zero vs h =
     let e : x + 0 * step ≡ x = omega arith in rw (e, mod-eq-of-lt h)
 along-first step x (suc n) vs h =
     let e : x + suc n * step ≡ x + step + n * step = omega arith in
-    rw (e, ← mod-add-mod (x + step) 65536 (n * step)) (along-first step (onward step x) n vs (mod-lt (x + step) (lit< tt)))
+    rw (e, ← mod-add-mod (x + step) 65536 (n * step))
+    (along-first step (onward step x) n vs (mod-lt (x + step) (lit< tt)))
 
 -- the highest digit comes first; it is k - 1 - j places on
 pub along-top : (step x k v j : ℕ) → x < 65536 → v < 2 ^ k → Top v j
@@ -149,7 +151,8 @@ module _ (start end t : ℕ) where
   -- a one behind n zeros is tried first
   stop-first : (q n : ℕ) (vs : List ℕ)
       → stopFrom start end t q (replicate n 0 ++ (1 ∷ vs))
-      ≡ cond (passes start end (sequenceOf (q + n) start t)) (stopFrom start end t q (replicate n 0 ++ (0 ∷ vs))) (q + n)
+      ≡ cond (passes start end (sequenceOf (q + n) start t)) (stopFrom start end t q (replicate n 0 ++ (0 ∷ vs)))
+      (q + n)
   unfolding stopFrom
   stop-first q zero vs =
       rw (add-zero q) (cond-not (passes start end (sequenceOf q start t)) q (stopFrom start end t (suc q) vs))

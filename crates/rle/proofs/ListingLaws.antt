@@ -26,8 +26,9 @@ module _ {A B : Type 0} (test : ℕ → A → Bool) (make : ℕ → A → B) whe
   listFrom-append p [] ys = ap (λ (k : ℕ). listFrom test make k ys) (sym (add-zero p))
   listFrom-append p (x ∷ xs) ys =
       let e : p + suc (length xs) ≡ suc p + length xs = omega arith in
+      let rest = listFrom test make (suc p + length xs) ys in
       rw (listFrom-append (suc p) xs ys, e)
-      (sym (cond-append (test p x) (make p x) (listFrom test make (suc p) xs) (listFrom test make (suc p + length xs) ys)))
+      (sym (cond-append (test p x) (make p x) (listFrom test make (suc p) xs) rest))
 
   -- where no test holds, nothing is listed
   pub listFrom-none : (p : ℕ) (xs : List A) → ((q : ℕ) (x : A) → p ≤ q → test q x ≡ false)

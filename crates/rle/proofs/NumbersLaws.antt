@@ -32,7 +32,8 @@ module _ (g : Range) where
   numbers-nil p = refl
 
   -- one word's numbers, and then those of the rest
-  pub numbers-cons : (p w : ℕ) (ws : List ℕ) → numbersFrom g p (w ∷ ws) ≡ wordNumbers g p w ++ numbersFrom g (p + coversOf w) ws
+  pub numbers-cons : (p w : ℕ) (ws : List ℕ)
+      → numbersFrom g p (w ∷ ws) ≡ wordNumbers g p w ++ numbersFrom g (p + coversOf w) ws
   unfolding numbersFrom valuesOf numbersIn
   numbers-cons p w ws =
       rw (← length-valuesIn w) (listFrom-append (isListed g) (λ q value. numberOf g q) p (valuesIn w) (valuesOf ws))

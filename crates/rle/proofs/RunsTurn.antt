@@ -62,7 +62,8 @@ module _ (end t : ℕ) (bytes : List ℕ) (at₀ start₀ : ℕ) (l₀ : List �
         wrote = none;
       }
 
-  module _ (at start first : ℕ) (l : List ℕ) (n : ℕ) (r : Ran end t bytes at₀ start₀ l₀ n₀ at start first l n)
+module _ {end t : ℕ} {bytes : List ℕ} {at₀ start₀ : ℕ} {l₀ : List ℕ} {n₀ : ℕ} where
+  module _ {at start first : ℕ} {l : List ℕ} {n : ℕ} (r : Ran end t bytes at₀ start₀ l₀ n₀ at start first l n)
       (e : end < 65536) (h : at + 1 < length bytes) (c : Clear (be16 bytes at) first) where
     abbrev w : ℕ
     w = be16 bytes at
@@ -97,15 +98,15 @@ module _ (end t : ℕ) (bytes : List ℕ) (at₀ start₀ : ℕ) (l₀ : List �
         let after = ap length comes ∙ length-append run rest in
         omega (arith, k, same (r .wrote), r .wrote .past, before, after, length-progression (stepOf t) start count)
 
-    pub turned : (l′ : List ℕ) (n′ start′ first′ : ℕ) → Wrote l n run l′ n′ → start′ ≡ movedBy count t start
+    pub turned : {l′ : List ℕ} {n′ start′ first′ : ℕ} → Wrote l n run l′ n′ → start′ ≡ movedBy count t start
         → first′ ≡ firstFail start′ end t → Ran end t bytes at₀ start₀ l₀ n₀ (at + 2) start′ first′ l′ n′
-    turned l′ n′ start′ first′ w′ m f =
+    turned w′ m f =
         record {
           onward = omega (arith, r .onward);
           within = omega arith;
           small = rw m (mod-lt (start + count * 2 ^ t % 65536) (lit< tt));
           fails = f;
           numbers = r .numbers ++ run;
-          split = r .split ∙ ap (λ (x : List ℕ). r .numbers ++ x) comes ∙ sym (append-assoc (r .numbers) run rest) ∙ (rw m);
+          split = r .split ∙ ap (_++_ (r .numbers)) comes ∙ sym (append-assoc (r .numbers) run rest) ∙ (rw m);
           wrote = and-then (r .wrote) w′;
         }

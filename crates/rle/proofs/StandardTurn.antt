@@ -82,17 +82,18 @@ module _ (g : Range) where
     pub here-end : length bytes ≤ at + 1 → here g bytes at left ≡ []
     here-end h = rw (words-end bytes at h) (numbers-nil g (insideCount g - left))
 
+    -- what follows the word at hand
+    abbrev rest : List ℕ
+    rest = here g bytes (at + 2) (left - coversOf (be16 bytes at))
+
     pub turn : (first : ℕ) → Standing g left first → at + 1 < length bytes → let w = be16 bytes at in
-        Turn (here g bytes at left) (added g w left first) (leb left (coversOf w)) (here g bytes (at + 2) (left - coversOf w))
+        Turn (here g bytes at left) (added g w left first) (leb left (coversOf w)) rest
     turn first s h =
         let e : insideCount g - (insideCount g - left) ≡ left = omega (arith, s .low) in
-        record {
-          split =
-              rw (words-cons bytes at h, numbers-cons g, numbers-along g, s .number, e, after left (coversOf (be16 bytes at)) (words16 (drop (at + 2) bytes)) (s .low));
-        }
+        let then = after left (coversOf (be16 bytes at)) (words16 (drop (at + 2) bytes)) (s .low) in
+        record { split = rw (words-cons bytes at h, numbers-cons g, numbers-along g, s .number, e, then) }
 
     -- the same without a number: a count needs none
     pub count-turn : left ≤ insideCount g → at + 1 < length bytes → let w = be16 bytes at in
-        let first = numberOf g (insideCount g - left) in
-        Turn (here g bytes at left) (added g w left first) (leb left (coversOf w)) (here g bytes (at + 2) (left - coversOf w))
+        Turn (here g bytes at left) (added g w left (numberOf g (insideCount g - left))) (leb left (coversOf w)) rest
     count-turn low h = turn (numberOf g (insideCount g - left)) (record { low = low; number = refl }) h

@@ -23,7 +23,8 @@ past step first (suc n) = onward step (past step first n)
 -- the first value has the first number
 unfoldable pub along : ℕ → ℕ → List ℕ → List ℕ
 along step first [] = []
-along step first (v ∷ vs) = cond (eqb v 1) (first ∷ along step (onward step first) vs) (along step (onward step first) vs)
+along step first (v ∷ vs) =
+    cond (eqb v 1) (first ∷ along step (onward step first) vs) (along step (onward step first) vs)
 
 -- all of xs, where there is room for it from index `at` on among `size`; else nothing
 unfoldable pub fitting : ℕ → ℕ → List ℕ → List ℕ

@@ -13,8 +13,8 @@ use Rattle.range.specs.Failing.{firstFail}
 abbrev pub here : ℕ → ℕ → List ℕ → ℕ → ℕ → List ℕ
 here end t bytes at start = crateNumbersFrom end t start (words16 (drop at bytes))
 
--- from index at₀, with start₀ and the list l₀ filled up to n₀, to index at, with start and l filled up to n; from there `first`
--- is the first place that fails
+-- from index at₀, with start₀ and the list l₀ filled up to n₀, to index at, with start and l filled up to n; from
+-- there `first` is the first place that fails
 pub record Ran (end t : ℕ) (bytes : List ℕ) (at₀ start₀ : ℕ) (l₀ : List ℕ) (n₀ at start first : ℕ) (l : List ℕ) (n : ℕ)
     : Type 0 where
   pub onward : at₀ ≤ at

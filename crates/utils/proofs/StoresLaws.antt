@@ -23,8 +23,9 @@ two-low x = ap₂ (λ (a b : ℕ). a ∷ b ∷ []) (omega arith) (omega arith)
 
 pub four-low : (x : ℕ) → four (x % 4294967296) ≡ four x
 four-low x =
-    ap₂ (λ (a b : List ℕ). a ++ b) (sym (two-low (x % 4294967296 / 65536)) ∙ ap two (omega arith) ∙ two-low (x / 65536))
-    (sym (two-low (x % 4294967296)) ∙ ap two (omega arith) ∙ two-low x)
+    let y = x % 4294967296 in
+    ap₂ (λ (a b : List ℕ). a ++ b) (sym (two-low (y / 65536)) ∙ ap two (omega arith) ∙ two-low (x / 65536))
+    (sym (two-low y) ∙ ap two (omega arith) ∙ two-low x)
 
 -- a run of stores and one behind it, known by an equation, are one run
 sets-halves : (l m n a b c : List ℕ) (i : ℕ) → m ≡ sets l i a → n ≡ sets m (i + length a) c → c ≡ b

@@ -42,14 +42,15 @@ returns-2 : tie.Need-returns-2
 returns-2 c = let f = c .before in
     let l = f .before .before in
     let a = l .before .before .args in
-    l .ceil-shift .ensures
-    ∙ first-is (a .start) (a .end) (a .thinning) (omega arith) (omega arith) (rw (← far f, ← f .again-from .ensures) (c .if2 .taken))
+    let k = rw (far f, f .again-from .ensures) at (c .if2 .taken) in
+    l .ceil-shift .ensures ∙ first-is (a .start) (a .end) (a .thinning) (omega arith) (omega arith) k
 
 returns-3 : tie.Need-returns-3
 returns-3 c = let f = c .before in
     let l = f .before .before in
     let a = l .before .before .args in
-    first-never (a .start) (a .end) (a .thinning) (omega arith) (omega arith) (rw (← far f, ← f .again-from .ensures) (c .if2 .left))
+    let k = rw (far f, f .again-from .ensures) at (c .if2 .left) in
+    first-never (a .start) (a .end) (a .thinning) (omega arith) (omega arith) k
 
 pub first-fail-spec : {M : Type 1} → statement M
 first-fail-spec =

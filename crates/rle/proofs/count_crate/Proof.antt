@@ -8,7 +8,7 @@ use Rattle.rle.proofs.count_crate.Statement.{statement}
 use Rattle.rle.proofs.count_crate.Tie as tie
 
 -- the part has that length
-cut : (f : tie.After-lesser) → f .lesser .result ≡ length (take (f .lesser .result) (f .before .before .args .bytes .now))
+cut : (f : tie.After-lesser) → let n = f .lesser .result in n ≡ length (take n (f .before .before .args .bytes .now))
 cut f = length-cut (f .before .before .args .bytes .now) 262144 (f .lesser .result) (f .lesser .ensures)
 
 lesser-requires : tie.Need-lesser-requires

@@ -1,5 +1,5 @@
--- `rle::count_standard` meets its contract: what is counted and what is still to be listed make up the whole, for every
--- range with as many positions inside. Assumes nothing.
+-- `rle::count_standard` meets its contract: what is counted and what is still to be listed make up the whole, for
+-- every range with as many positions inside. Assumes nothing.
 use Prim.Native.Nat.{ℕ, _+_, _-_, _≤_, _<_}
 use mathlib.Core.Path.{_≡_, ap, _∙_}
 use mathlib.Core.List.{List}
@@ -44,7 +44,8 @@ abbrev word : tie.At-loop Inv-loop μ-loop → ℕ
 word l = be16 (entry l .args .bytes .now) (l .loop .at)
 
 -- the range's own count
-own : (l : tie.At-loop Inv-loop μ-loop) → Counts (entry l .args .g) (entry l .args .bytes .now) (l .loop .left) (l .loop .at) (l .loop .n)
+own : (l : tie.At-loop Inv-loop μ-loop) → let a = entry l .args in
+    Counts (a .g) (a .bytes .now) (l .loop .left) (l .loop .at) (l .loop .n)
 own l = l .loop .inv .1 (entry l .args .g) (l .before .inside-count .ensures)
 
 -- the word's turn, and as many as it adds
@@ -52,26 +53,25 @@ module _ (c : tie.After-ones-before Inv-loop μ-loop) (g : Range) where
   abbrev head : tie.At-loop Inv-loop μ-loop
   head = c .before .before .before .before .before
 
-  abbrev next : ℕ
-  next = numberOf g (insideCount g - head .loop .left)
+  abbrev numbers : List ℕ
+  numbers = added g (word head) (head .loop .left) (numberOf g (insideCount g - head .loop .left))
 
-  here-turn : head .loop .left ≤ insideCount g
-      → Turn (here g (entry head .args .bytes .now) (head .loop .at) (head .loop .left)) (added g (word head) (head .loop .left) next)
-      (leb (head .loop .left) (coversOf (word head)))
-      (here g (entry head .args .bytes .now) (head .loop .at + 2) (head .loop .left - coversOf (word head)))
-  here-turn low =
-      count-turn g (entry head .args .bytes .now) (head .loop .at) (head .loop .left) low (c .before .before .before .before .loop-test .taken)
+  here-turn : let l = head .loop in let b = entry head .args .bytes .now in l .left ≤ insideCount g
+      → Turn (here g b (l .at) (l .left)) numbers (leb (l .left) (coversOf (word head)))
+      (here g b (l .at + 2) (l .left - coversOf (word head)))
+  here-turn low = let i = c .before .before .before .before in
+      count-turn g (entry head .args .bytes .now) (head .loop .at) (head .loop .left) low (i .loop-test .taken)
 
-  more : c .ones-before .result ≡ length (added g (word head) (head .loop .left) next)
-  more = rw (← c .before .pair .ensures) (c .ones-before .ensures ∙ length-ones (stepOf (g .thinning)) next (head .loop .left) (c .before .pair .result))
+  more : c .ones-before .result ≡ length numbers
+  more = let p = c .before .pair in
+      rw (← p .ensures) (c .ones-before .ensures ∙ length-ones _ _ (head .loop .left) (p .result))
 
 inside-count-requires : tie.Need-inside-count-requires Inv-loop μ-loop
 inside-count-requires c κs = search needs
 
 loop-holds : tie.Need-loop-holds Inv-loop μ-loop
-loop-holds c =
-    (omega arith,
-    λ g e. (omega (arith, e), rw (e, ← here-start g (c .before .before .args .bytes .now)) (record { count = omega arith })))
+loop-holds c = let b = c .before .before .args .bytes .now in
+    (omega arith, λ g e. (omega (arith, e), rw (e, ← here-start g b) (record { count = omega arith })))
 
 add-loop : tie.Need-add-loop Inv-loop μ-loop
 add-loop c = search needs
@@ -107,7 +107,7 @@ returns : tie.Need-returns Inv-loop μ-loop
 returns c = let o = c .before .before in
     let l = o .before .before .before .before .before in
     let g = entry l .args .g in
-    let e : l .loop .left ≤ coversOf (word l) = rw (← o .before .pair .ensures, ← c .before .covers .ensures) (c .if1 .taken) in
+    let e = rw (c .before .covers .ensures, o .before .pair .ensures) at (c .if1 .taken) in
     count-last (here-turn o g (own l .0)) (own l .1) (more o g) (le-leb _ _ e)
 
 sub-left : tie.Need-sub-left Inv-loop μ-loop
@@ -122,11 +122,12 @@ loop-less c = search needs
 loop-again : tie.Need-loop-again Inv-loop μ-loop
 loop-again c = let o = c .before .before in
     let l = o .before .before .before .before .before in
-    let cov : c .before .covers .result ≡ coversOf (word l) = c .before .covers .ensures ∙ ap coversOf (o .before .pair .ensures) in
-    let e : coversOf (word l) < l .loop .left = rw (← cov) (c .if1 .left) in
-    (omega arith,
-    λ g z. let i = l .loop .inv .1 g z in
-    (omega (arith, i .0), rw cov (count-next (here-turn o g (i .0)) (i .1) (more o g) (lt-leb _ _ e))))
+    let cov = c .before .covers .ensures ∙ ap coversOf (o .before .pair .ensures) in
+    let e : coversOf (word l) < l .loop .left = rw cov at (c .if1 .left) in (
+      omega arith,
+      λ g z. let i = l .loop .inv .1 g z in
+          (omega (arith, i .0), rw cov (count-next (here-turn o g (i .0)) (i .1) (more o g) (lt-leb _ _ e))),
+    )
 
 returns-2 : tie.Need-returns-2 Inv-loop μ-loop
 returns-2 c = let l = c .before in

@@ -3,6 +3,8 @@ use Rattle.laws.proofs.Answering.{listed, full}
 use Rattle.def_wire.specs.Bytes.{words16}
 use Rattle.def_refusals.specs.Answers.{shown}
 use native.Mathlib.Omega.{arith}
+use lib.ListN.{length}
+use Prim.Native.Nat.{_≤_}
 use mathlib.Core.Path.{refl}
 use borrow.Author.Needs.{needs}
 use Rattle.rle.proofs.fill_words.Statement.{statement}
@@ -22,8 +24,9 @@ returns c = let r = c .before .before in
     let n = r .before .before .before in
     let a = n .before .before .before .args in
     let whole = words16 (a .bytes .now) in
-    let k = r .before .before .if1 .taken in
-    listed (shown whole) (a .out .now) whole _ _ refl (omega (arith, n .count-words .ensures, k)) (r .list-words .ensures)
+    let t = r .before .before .if1 .taken in
+    let k : length whole ≤ length (a .out .now) = omega (arith, n .count-words .ensures, t) in
+    listed (shown whole) (a .out .now) whole _ _ refl k (r .list-words .ensures)
 
 returns-2 : tie.Need-returns-2
 returns-2 c = let a = c .before .before .before .before .args in

@@ -1,6 +1,6 @@
 -- `rle::put_places` meets its contract: there is no room, or the word's storer has it. Assumes nothing.
 use mathlib.Core.List.{List}
-use Prim.Native.Nat.{ℕ, _+_, _≤_}
+use Prim.Native.Nat.{ℕ, _+_, _≤_, _<_}
 use mathlib.Core.Path.{_≡_, ap, _∙_}
 use native.Mathlib.Omega.{arith}
 use borrow.Author.Needs.{needs}
@@ -24,7 +24,7 @@ rest r = let a = r .before .before .args in
     rw (r .rest-of .ensures) (along-rest (a .step) (a .first) (a .room) (a .w) (a .place))
 
 -- as many
-count : (o : tie.After-ones-before) → let r = o .before .before in o .ones-before .result ≡ length (asked (r .before .before))
+count : (o : tie.After-ones-before) → o .ones-before .result ≡ length (asked (o .before .before .before .before))
 count o = let r = o .before .before in let a = r .before .before .args in
     o .ones-before .ensures ∙ length-ones (a .step) (a .first) (a .room) (r .rest-of .result) ∙ ap length (rest r)
 
@@ -43,7 +43,9 @@ ones-before-requires c κs = search needs
 
 returns-2 : tie.Need-returns-2
 returns-2 c = let s = c .before .before .before .before .before in
-    rw (fitting-none (length (s .args .out .now)) (s .args .at) (asked s) (omega (arith, c .if2 .taken, count (c .before)))) none
+    let n = count (c .before) in
+    let h : length (s .args .out .now) < s .args .at + length (asked s) = omega (arith, c .if2 .taken, n) in
+    rw (fitting-none (length (s .args .out .now)) (s .args .at) (asked s) h) none
 
 store-word-requires : tie.Need-store-word-requires
 store-word-requires c κs = let o = c .before .before in

@@ -29,9 +29,10 @@ returns : tie.Need-returns
 returns c = let m = c .before in
     let l = m .before in
     let a = l .before .before .args in
-    let cut = l .lesser .ensures in
-    (part-cut (a .s .now) (a .at) (l .lesser .result) cut (a .n) (m .lesser2 .result) (m .lesser2 .ensures),
-    part-start (a .s .now) (a .at) (l .lesser .result) cut (a .s .ptr))
+    let cut = l .lesser .ensures in (
+      part-cut (a .s .now) (a .at) (l .lesser .result) cut (a .n) (m .lesser2 .result) (m .lesser2 .ensures),
+      part-start (a .s .now) (a .at) (l .lesser .result) cut (a .s .ptr),
+    )
 
 pub part-spec : {M : Type 1} → statement M
 part-spec =

@@ -1,4 +1,4 @@
--- `rle::list::at_most` meets its contract: what is summed and what is still to come make up the whole. Assumes nothing.
+-- `rle::list::at_most` meets its contract: what is summed and what is to come make up the whole. Assumes nothing.
 use Prim.Native.Nat.{_+_, _-_, _≤_}
 use mathlib.Core.Path.{_≡_}
 use native.Mathlib.Omega.{arith}
@@ -18,10 +18,12 @@ abbrev μ-loop : tie.MeasureT-loop
 μ-loop bytes at₀ n₀ at n = length bytes - at
 
 -- the word at hand weighs as much
-next : (c : tie.After-weight Inv-loop μ-loop) → let l = c .before .before .before .before .before in let b = l .before .before .args .bytes .now in
+next : (c : tie.After-weight Inv-loop μ-loop) → let l = c .before .before .before .before .before in
+    let b = l .before .before .args .bytes .now in
     mostOf (words16 (drop (l .loop .at) b)) ≡ c .weight .result + mostOf (words16 (drop (l .loop .at + 2) b))
-next c = let l = c .before .before .before .before .before in let b = l .before .before .args .bytes .now in
-    rw (c .weight .ensures, c .before .pair .ensures) (most-next b (l .loop .at) (c .before .before .before .before .loop-test .taken))
+next c = let i = c .before .before .before .before in
+    rw (c .weight .ensures, c .before .pair .ensures)
+    (most-next (i .before .before .before .args .bytes .now) (i .before .loop .at) (i .loop-test .taken))
 
 loop-holds : tie.Need-loop-holds Inv-loop μ-loop
 loop-holds c = (omega arith, omega arith)

@@ -35,7 +35,8 @@ Inv-loop bytes end thinning begin out₀ step last start₀ first₀ at₀ n₀ 
 abbrev μ-loop : tie.MeasureT-loop
 μ-loop bytes end thinning begin out₀ step last start₀ first₀ at₀ n₀ out start first at n = length bytes - at
 
--- the function's entry, from the loop's head; the loop's head, and where the runs before a word were passed, from where the word is known
+-- the function's entry, from the loop's head; the loop's head, and where the runs before a word were passed, from
+-- where the word is known
 abbrev entry : tie.At-loop Inv-loop μ-loop → tie.Start Inv-loop μ-loop
 entry l = l .before .before .before .before .before .before
 
@@ -115,9 +116,11 @@ stored c = let p = c .before .before in
 onward : (c : tie.Joined2 Inv-loop μ-loop) → let p = head (c .before) in let s = entry (top p) in
     Filling (whole s) (s .args .out .now) (c .if2 .out) (rest p) (c .if2 .n)
 onward c = let v = c .before in let p = head v in let a = entry (top p) .args in let r = p .list-runs .result in
-    let zeros = here-zeros (a .end) (a .thinning) (a .bytes .now) (r .at) (r .start) (p .list-runs .ensures .small) (more v) in
+    let s = p .list-runs .ensures .small in
+    let zeros = here-zeros (a .end) (a .thinning) (a .bytes .now) (r .at) (r .start) s (more v) in
     ⊎-elim
-    (λ w. let q : tie.After-stop-at Inv-loop μ-loop = record { before = record { before = v; if2 = w .0 }; stop-at = w .1 } in
+    (λ w. let q : tie.After-stop-at Inv-loop μ-loop =
+    record { before = record { before = v; if2 = w .0 }; stop-at = w .1 } in
     let k = stored (record { before = record { before = q; store-word-arg = w .2 }; store-word = w .3 }) in
     let e : coversOf (word p) ≤ stop p = rw (← stops q, ← covered v) (w .6 .left) in
     settled (w .7) (w .8) (fill-next (here-turn v) (passed p) k (le-ltb _ _ e)))
@@ -148,7 +151,8 @@ first-fail-requires : tie.Need-first-fail-requires Inv-loop μ-loop
 first-fail-requires c κs = search needs
 
 loop-holds : tie.Need-loop-holds Inv-loop μ-loop
-loop-holds c = (omega arith, omega arith, c .first-fail .ensures, begun (omega (arith, c .before .before .before .before .before .pre)))
+loop-holds c = let s = c .before .before .before .before .before in
+    (omega arith, omega arith, c .first-fail .ensures, begun (omega (arith, s .pre)))
 
 list-runs-requires : tie.Need-list-runs-requires Inv-loop μ-loop
 list-runs-requires c κs = let l = c .before .before in
@@ -162,7 +166,8 @@ returns : tie.Need-returns Inv-loop μ-loop
 returns c = let p = c .before .before .before in
     let a = entry (top p) .args in
     let r = p .list-runs .result in
-    let h : length (a .bytes .now) ≤ r .at + 1 = omega (arith, c .if1 .taken, top p .before .before .last-of .ensures) in
+    let last = top p .before .before .last-of .ensures in
+    let h : length (a .bytes .now) ≤ r .at + 1 = omega (arith, c .if1 .taken, last) in
     done (here-end (a .end) (a .thinning) (a .bytes .now) (r .at) (r .start) h) (passed p)
 
 shared-slice-read-pair : tie.Need-shared-slice-read-pair Inv-loop μ-loop
@@ -222,8 +227,8 @@ loop-again c = let v = c .before .before in
     let p = head v in
     let n = next c in
     let t = entry (top p) .args .thinning in
-    (omega (arith, more v), rw (n .0) (mod-lt (p .list-runs .result .start + coversOf (word p) * 2 ^ t % 65536) (lit< tt)),
-    n .1, rw (n .0) (onward (c .before)))
+    let small = mod-lt (p .list-runs .result .start + coversOf (word p) * 2 ^ t % 65536) (lit< tt) in
+    (omega (arith, more v), rw (n .0) small, n .1, rw (n .0) (onward (c .before)))
 
 same-length-3 : tie.Need-same-length-3 Inv-loop μ-loop
 same-length-3 c = c .before .loop .inv .3 .same
@@ -231,7 +236,8 @@ same-length-3 c = c .before .loop .inv .3 .same
 returns-3 : tie.Need-returns-3 Inv-loop μ-loop
 returns-3 c = let l = c .before in
     let a = entry l .args in
-    let h : length (a .bytes .now) ≤ l .loop .at + 1 = omega (arith, c .loop-test .left, l .before .before .last-of .ensures) in
+    let last = l .before .before .last-of .ensures in
+    let h : length (a .bytes .now) ≤ l .loop .at + 1 = omega (arith, c .loop-test .left, last) in
     done (here-end (a .end) (a .thinning) (a .bytes .now) (l .loop .at) (l .loop .start) h) (l .loop .inv .3)
 
 pub list-crate-spec : {M : Type 1} → statement M

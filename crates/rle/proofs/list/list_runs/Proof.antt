@@ -1,4 +1,4 @@
--- `rle::list::list_runs` meets its contract: its invariant is `Ran`, and each need cites a law of one turn. Assumes nothing.
+-- `rle::list::list_runs` meets its contract: its invariant is `Ran`, and needs cite laws of one turn. Assumes nothing.
 use Prim.Native.Nat.{ℕ, _+_, _-_, _%_, _<_}
 use mathlib.Core.Bool.{_&&_}
 use mathlib.Core.Path.{_≡_, sym, ap, _∙_}
@@ -37,7 +37,7 @@ word l = be16 (entry l .args .bytes .now) (l .loop .at)
 clear : (e : tie.Else1 Inv-loop μ-loop) → Clear (word (head e)) (head e .loop .first)
 clear e = let k = e .before in
     clear-run (word (head e)) (head e .loop .first)
-    (ap (λ (w : ℕ). leb 16384 w && (ltb w 32768 && leb (w % 16384) (head e .loop .first))) (sym (k .before .pair .ensures)) ∙ sym (k .is-clear-run .ensures) ∙ not-false _ (e .if1 .left))
+    (rw (← k .before .pair .ensures) (sym (k .is-clear-run .ensures) ∙ not-false _ (e .if1 .left)))
 
 more : (e : tie.Else1 Inv-loop μ-loop) → let l = head e in l .loop .at + 1 < length (entry l .args .bytes .now)
 more e = let l = head e in omega (arith, e .before .before .before .before .before .loop-test .taken, entry l .pre .0)
@@ -54,7 +54,9 @@ moved w = let r = w .before .before in let l = head (r .before) in let s = entry
     ∙ past-moved (s .args .thinning) (l .loop .start) (r .run-length .result) (l .loop .inv .small)
 
 loop-holds : tie.Need-loop-holds Inv-loop μ-loop
-loop-holds c = let s = c .before .before in let a = s .args in begun (a .end) (a .thinning) (a .bytes .now) (a .from) (a .begin) (a .out .now) (a .stored) (a .clear) (s .pre .1) (omega arith) (s .pre .2)
+loop-holds c = let s = c .before .before in let a = s .args in
+    begun (a .end) (a .thinning) (a .bytes .now) (a .from) (a .begin) (a .out .now) (a .stored) (a .clear) (s .pre .1)
+    (omega arith) (s .pre .2)
 
 shared-slice-read-pair : tie.Need-shared-slice-read-pair Inv-loop μ-loop
 shared-slice-read-pair c = search needs
@@ -89,8 +91,7 @@ store-run-requires c κs = let r = c .before in
     let l = head e in
     let s = entry l in
     let a = s .args in
-    rw (counted r)
-    (room (a .end) (a .thinning) (a .bytes .now) (a .from) (a .begin) (a .out .now) (a .stored) (l .loop .at) (l .loop .start) (l .loop .first) (l .loop .out) (l .loop .n) (l .loop .inv) (omega arith) (more e) (clear e) (s .pre .4))
+    rw (counted r) (room (l .loop .inv) (omega arith) (more e) (clear e) (s .pre .4))
 
 next-fail-requires : tie.Need-next-fail-requires Inv-loop μ-loop
 next-fail-requires c κs = let w = c .before .before in (head (w .before .before .before) .loop .inv .fails, moved w)
@@ -108,8 +109,9 @@ loop-again c = let w = c .before .before .before in
     let l = head e in
     let s = entry l in
     let a = s .args in
-    turned (a .end) (a .thinning) (a .bytes .now) (a .from) (a .begin) (a .out .now) (a .stored) (l .loop .at) (l .loop .start) (l .loop .first) (l .loop .out) (l .loop .n) (l .loop .inv) (omega arith) (more e) (clear e)
-    (w .store-run .last .0) (w .store-run .result .n) (w .store-run .result .next) (c .next-fail .result) (rw (← counted r, ← s .pre .3) (w .store-run .ensures .0)) (moved w ∙ ap (λ (k : ℕ). movedBy k (a .thinning) (l .loop .start)) (counted r)) (c .next-fail .ensures)
+    turned (l .loop .inv) (omega arith) (more e) (clear e)
+    (rw (← counted r, ← s .pre .3) (w .store-run .ensures .0))
+    (moved w ∙ ap (λ (k : ℕ). movedBy k (s .args .thinning) (l .loop .start)) (counted r)) (c .next-fail .ensures)
 
 same-length-2 : tie.Need-same-length-2 Inv-loop μ-loop
 same-length-2 c = same (c .before .loop .inv .wrote)

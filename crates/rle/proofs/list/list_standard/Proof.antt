@@ -16,7 +16,8 @@ use Rattle.laws.specs.Stores.{Wrote}
 use Rattle.laws.proofs.Filling.{Filling, start, skip, done}
 use Rattle.range.specs.Steps.{stepOf}
 use Rattle.rle.proofs.Turn.{Turn, fill-room, fill-last, fill-next}
-use Rattle.rle.proofs.StandardTurn.{Standing, here, added, begin-standing, next-standing, here-start, here-end, turn}
+use Rattle.rle.proofs.StandardTurn.{Standing, begin-standing, next-standing}
+use Rattle.rle.proofs.StandardTurn.{here, added, here-start, here-end, turn}
 use Rattle.rle.proofs.list.list_standard.Statement.{statement}
 use Rattle.rle.proofs.list.list_standard.Tie as tie
 
@@ -51,11 +52,11 @@ stored c = let l = c .before .before .before .before .before .before in
     rw (← stepped l, ← c .before .before .pair .ensures) (c .store-word .ensures)
 
 -- the word's turn
-here-turn : (i : tie.In-loop Inv-loop μ-loop) → let l = i .before in let a = entry l .args in
-    Turn (here (a .g) (a .bytes .now) (l .loop .at) (l .loop .left)) (numbers l) (leb (l .loop .left) (coversOf (word l)))
-    (here (a .g) (a .bytes .now) (l .loop .at + 2) (l .loop .left - coversOf (word l)))
-here-turn i = let l = i .before in let a = entry l .args in
-    turn (a .g) (a .bytes .now) (l .loop .at) (l .loop .left) (l .loop .first) (l .loop .inv .1) (i .loop-test .taken)
+here-turn : (i : tie.In-loop Inv-loop μ-loop) → let l = i .before in let k = l .loop in let a = entry l .args in
+    Turn (here (a .g) (a .bytes .now) (k .at) (k .left)) (numbers l) (leb (k .left) (coversOf (word l)))
+    (here (a .g) (a .bytes .now) (k .at + 2) (k .left - coversOf (word l)))
+here-turn i = let k = i .before .loop in let a = entry (i .before) .args in
+    turn (a .g) (a .bytes .now) (k .at) (k .left) (k .first) (k .inv .1) (i .loop-test .taken)
 
 doubled-requires : tie.Need-doubled-requires Inv-loop μ-loop
 doubled-requires c κs = search needs
@@ -64,10 +65,10 @@ inside-count-requires : tie.Need-inside-count-requires Inv-loop μ-loop
 inside-count-requires c κs = search needs
 
 loop-holds : tie.Need-loop-holds Inv-loop μ-loop
-loop-holds c = let s = c .before .before .before .before in
-    let g = s .args .g in
+loop-holds c = let a = c .before .before .before .before .args in
     let k = c .inside-count .ensures in
-    (omega arith, rw k (begin-standing g (search needs)), rw k (skip (here-start g (s .args .bytes .now)) (start (omega arith))))
+    let e = here-start (a .g) (a .bytes .now) in
+    (omega arith, rw k (begin-standing (a .g) (search needs)), rw k (skip e (start (omega arith))))
 
 add-loop : tie.Need-add-loop Inv-loop μ-loop
 add-loop c = search needs
@@ -126,20 +127,19 @@ loop-again c = let v = c .before .before in
     let w = v .before .before .before in
     let i = w .before .before .before .before .before in
     let l = i .before in
-    let cov : v .covers .result ≡ coversOf (word l) = v .covers .ensures ∙ ap coversOf (w .before .before .pair .ensures) in
-    let k : coversOf (word l) < l .loop .left = rw (← cov) (c .before .if1 .left) in
-    let g = entry l .args .g in
-    (omega arith,
-    rw (c .moved-by .ensures, cov) (next-standing g (l .loop .left) (l .loop .first) (coversOf (word l)) k (l .loop .inv .1)),
-    rw cov (fill-next (here-turn i) (l .loop .inv .2) (stored w) (lt-leb _ _ k)))
+    let cov = v .covers .ensures ∙ ap coversOf (w .before .before .pair .ensures) in
+    let k : coversOf (word l) < l .loop .left = rw cov at (c .before .if1 .left) in
+    let s = next-standing (entry l .args .g) (l .loop .left) (l .loop .first) _ k (l .loop .inv .1) in
+    let f = fill-next (here-turn i) (l .loop .inv .2) (stored w) (lt-leb _ _ k) in
+    (omega arith, rw (c .moved-by .ensures, cov) s, rw cov f)
 
 same-length-2 : tie.Need-same-length-2 Inv-loop μ-loop
 same-length-2 c = search needs
 
 returns-2 : tie.Need-returns-2 Inv-loop μ-loop
 returns-2 c = let l = c .before in
-    let s = entry l in
-    done (here-end (s .args .g) (s .args .bytes .now) (l .loop .at) (l .loop .left) (c .loop-test .left)) (l .loop .inv .2)
+    let a = entry l .args in
+    done (here-end (a .g) (a .bytes .now) (l .loop .at) (l .loop .left) (c .loop-test .left)) (l .loop .inv .2)
 
 pub list-standard-spec : {M : Type 1} → statement M
 list-standard-spec =

@@ -1,4 +1,4 @@
--- `rle::list::tally_crate` meets its contract: what is counted and what is still to be listed make up the whole. Assumes
+-- `rle::list::tally_crate` meets its contract: what is counted and what is to be listed make up the whole. Assumes
 -- nothing.
 use Prim.Native.Nat.{ℕ, _+_, _-_, _*_, _%_, _^_, _≤_, _<_}
 use mathlib.Core.List.{List}
@@ -64,32 +64,42 @@ stops c = let v = c .before .before in let l = head v in let a = entry l .args i
 abbrev numbers : tie.At-loop Inv-loop μ-loop → List ℕ
 numbers l = let a = entry l .args in added (a .end) (a .thinning) (word l) (l .loop .start)
 
-more : (c : tie.After-ones-before Inv-loop μ-loop) → c .ones-before .result ≡ length (numbers (head (c .before .before .before)))
+more : (c : tie.After-ones-before Inv-loop μ-loop)
+    → c .ones-before .result ≡ length (numbers (head (c .before .before .before)))
 more c = let v = c .before .before .before in let l = head v in let a = entry l .args in
     c .ones-before .ensures
     ∙ length-ones (stepOf (a .thinning)) (l .loop .start) (c .before .stop-at .result) (v .before .pair .result)
     ∙ ap length (along-same (l .loop .start) refl (stops (c .before)) (v .before .pair .ensures))
 
--- what is still to be listed behind it, and its turn
-abbrev rest : tie.At-loop Inv-loop μ-loop → List ℕ
-rest l = let a = entry l .args in
-    here (a .end) (a .thinning) (a .bytes .now) (l .loop .at + 2) (movedBy (coversOf (word l)) (a .thinning) (l .loop .start))
+-- what is still to be listed, from here and behind the word, and the word's turn
+abbrev from : tie.At-loop Inv-loop μ-loop → ℕ → ℕ → List ℕ
+from l at start = let a = entry l .args in here (a .end) (a .thinning) (a .bytes .now) at start
 
-here-turn : (i : tie.In-loop Inv-loop μ-loop) → let l = i .before in let a = entry l .args in
-    Turn (here (a .end) (a .thinning) (a .bytes .now) (l .loop .at) (l .loop .start)) (numbers l) (ltb (stop l) (coversOf (word l))) (rest l)
-here-turn i = let l = i .before in let a = entry l .args in
-    turn (a .end) (a .thinning) (a .bytes .now) (l .loop .at) (l .loop .start) (l .loop .inv .1) (i .loop-test .taken)
+abbrev rest : tie.At-loop Inv-loop μ-loop → List ℕ
+rest l = from l (l .loop .at + 2) (movedBy (coversOf (word l)) (entry l .args .thinning) (l .loop .start))
+
+here-turn : (i : tie.In-loop Inv-loop μ-loop) → let l = i .before in
+    Turn (from l (l .loop .at) (l .loop .start)) (numbers l) (ltb (stop l) (coversOf (word l))) (rest l)
+here-turn i = let k = i .before .loop in let a = entry (i .before) .args in
+    turn (a .end) (a .thinning) (a .bytes .now) (k .at) (k .start) (k .inv .1) (i .loop-test .taken)
 
 -- what is counted where the loop goes on
 onward : (c : tie.Joined1 Inv-loop μ-loop) → let l = head (c .before) in Counting (whole l) (rest l) (c .if1 .n)
-onward c = let v = c .before in let i = v .before .before .before .before in let l = i .before in let a = entry l .args in
-    ⊎-elim
-    (λ w. let q : tie.After-stop-at Inv-loop μ-loop = record { before = record { before = v; if1 = w .0 }; stop-at = w .1 } in
-    let e : coversOf (word l) ≤ stop l = rw (← stops q, ← covered v) (w .3 .left) in
-    rw (w .4) (count-next (here-turn i) (l .loop .inv .3) (more (record { before = q; ones-before = w .2 })) (le-ltb _ _ e)))
-    (λ w. let z : word l < 16384 = rw (← v .before .pair .ensures) (w .0 .left) in
+onward c = let v = c .before in
+    let i = v .before .before .before .before in
+    let l = i .before in
+    let a = entry l .args in
+    let k = l .loop in
     let h = i .loop-test .taken in
-    rw (w .1, ← here-zeros (a .end) (a .thinning) (a .bytes .now) (l .loop .at) (l .loop .start) (l .loop .inv .1) h z) (l .loop .inv .3))
+    let zeros = here-zeros (a .end) (a .thinning) (a .bytes .now) (k .at) (k .start) (k .inv .1) h in
+    ⊎-elim
+    (λ w. let q : tie.After-stop-at Inv-loop μ-loop =
+    record { before = record { before = v; if1 = w .0 }; stop-at = w .1 } in
+    let m = more (record { before = q; ones-before = w .2 }) in
+    let e : coversOf (word l) ≤ stop l = rw (← stops q, ← covered v) (w .3 .left) in
+    rw (w .4) (count-next (here-turn i) (k .inv .3) m (le-ltb _ _ e)))
+    (λ w. let z : word l < 16384 = rw (← v .before .pair .ensures) (w .0 .left) in
+    rw (w .1, ← zeros z) (k .inv .3))
     (c .if1 .came)
 
 -- the start and the first place that fails, for the next word
@@ -168,8 +178,8 @@ loop-less c = search needs
 loop-again : tie.Need-loop-again Inv-loop μ-loop
 loop-again c = let l = head (c .before .before) in
     let n = next c in
-    (omega arith, rw (n .0) (mod-lt (l .loop .start + coversOf (word l) * 2 ^ entry l .args .thinning % 65536) (lit< tt)),
-    n .1, rw (n .0) (onward (c .before)))
+    let small = mod-lt (l .loop .start + coversOf (word l) * 2 ^ entry l .args .thinning % 65536) (lit< tt) in
+    (omega arith, rw (n .0) small, n .1, rw (n .0) (onward (c .before)))
 
 returns-2 : tie.Need-returns-2 Inv-loop μ-loop
 returns-2 c = let l = c .before in

@@ -1,7 +1,6 @@
 -- `rle::word::rest_of` meets its contract: a run by a difference, a vector by a shift and a mask. Assumes nothing.
 use Prim.Native.Nat.{_+_, _*_, _%_, _^_}
-use mathlib.Core.Path.{_≡_, sym, ap, _∙_}
-use native.Mathlib.Omega.{arith}
+use mathlib.Core.Path.{_≡_, ap, _∙_}
 use borrow.Author.Needs.{needs}
 use lib.Bits.{bitAnd, and-mask}
 use lib.Pow.{mod-mod-pow}
@@ -10,8 +9,10 @@ use Rattle.rle.proofs.word.rest_of.Statement.{statement}
 use Rattle.rle.proofs.word.rest_of.Tie as tie
 
 -- the vector's bits
-bits : (c : tie.After-lesser2) → let x = c .before .before .args .w * 2 ^ c .lesser2 .result in bitAnd (x % 4294967296) 32767 ≡ x % 32768
-bits c = let x = c .before .before .args .w * 2 ^ c .lesser2 .result in and-mask (x % 4294967296) 15 ∙ mod-mod-pow x 17 15
+bits : (c : tie.After-lesser2) → let x = c .before .before .args .w * 2 ^ c .lesser2 .result in
+    bitAnd (x % 4294967296) 32767 ≡ x % 32768
+bits c = let x = c .before .before .args .w * 2 ^ c .lesser2 .result in
+    and-mask (x % 4294967296) 15 ∙ mod-mod-pow x 17 15
 
 run-length-requires : tie.Need-run-length-requires
 run-length-requires c κs = search needs

@@ -35,8 +35,8 @@ returns-3 c = let e = c .before in
     let a = s .args in
     let k : firstFail (a .start) (a .end) (a .thinning) < coversOf (a .w) =
     omega (arith, v .covers .ensures, s .pre, e .before .if1 .left) in
-    s .pre
-    ∙ sym (stop-ones (a .start) (a .end) (a .thinning) (a .w) (omega arith) (omega arith) (e .if2 .left) (c .if3 .taken) k)
+    let ones = stop-ones (a .start) (a .end) (a .thinning) (a .w) (omega arith) (omega arith) in
+    s .pre ∙ sym (ones (e .if2 .left) (c .if3 .taken) k)
 
 stop-in-vector-requires : tie.Need-stop-in-vector-requires
 stop-in-vector-requires c κs = search needs

@@ -25,11 +25,13 @@ abbrev place : tie.After-top-bit Inv-loop μ-loop → ℕ
 place c = 14 - c .top-bit .result
 
 -- its number's test
-tested : (c : tie.After-passes Inv-loop μ-loop) → let t = c .before .before in let a = t .before .before .before .before .args in
+tested : (c : tie.After-passes Inv-loop μ-loop) → let t = c .before .before in
+    let a = t .before .before .before .before .args in
     c .passes .result ≡ passes (a .start) (a .end) (sequenceOf (place t) (a .start) (a .thinning))
-tested c = let t = c .before .before in let a = t .before .before .before .before .args in
-    c .passes .ensures
-    ∙ ap (passes (a .start) (a .end)) (c .before .moved-by .ensures ∙ moved-sequence (place t) (a .thinning) (a .start))
+tested c = let t = c .before .before in
+    let a = t .before .before .before .before .args in
+    let e = c .before .moved-by .ensures ∙ moved-sequence (place t) (a .thinning) (a .start) in
+    c .passes .ensures ∙ ap (passes (a .start) (a .end)) e
 
 -- it is tried first
 tried : (c : tie.After-top-bit Inv-loop μ-loop) → let l = c .before .before in let a = l .before .before .args in
@@ -50,9 +52,10 @@ cast-v c = search needs
 
 loop-holds : tie.Need-loop-holds Inv-loop μ-loop
 loop-holds c = let a = c .before .args in
-    let e = digits-mod 15 15 (a .w) (omega arith) ∙ sym (digits-all (a .w) (c .before .pre)) in
-    (omega (arith, c .vector-bits .ensures),
-    rw (c .vector-bits .ensures) (ap (stopFrom (a .start) (a .end) (a .thinning) 0) e))
+    let e = digits-mod 15 15 (a .w) (omega arith) ∙ sym (digits-all (a .w) (c .before .pre)) in (
+      omega (arith, c .vector-bits .ensures),
+      rw (c .vector-bits .ensures) (ap (stopFrom (a .start) (a .end) (a .thinning) 0) e),
+    )
 
 top-bit-requires : tie.Need-top-bit-requires Inv-loop μ-loop
 top-bit-requires c κs = search needs
@@ -82,8 +85,9 @@ loop-less c = let t = c .before .before .before .before .top-bit in
 
 loop-again : tie.Need-loop-again Inv-loop μ-loop
 loop-again c = let t = c .before .before .before .before in
-    let e = sym (tested (c .before .before)) ∙ not-false _ (c .before .if1 .left) in
-    (omega (arith, c .without-top .ensures, t .before .before .loop .inv .0), rw (c .without-top .ensures) (sym (tried t ∙ (rw e))))
+    let p = sym (tested (c .before .before)) ∙ not-false _ (c .before .if1 .left) in
+    let e = c .without-top .ensures in
+    (omega (arith, e, t .before .before .loop .inv .0), rw e (sym (tried t ∙ (rw p))))
 
 returns-2 : tie.Need-returns-2 Inv-loop μ-loop
 returns-2 c = let l = c .before in

@@ -28,9 +28,11 @@ next l = let k = l .before .loop in
     progression-cons (l .before .before .before .args .step) (k .x) (k .left) (k .left - 1) (omega arith)
 
 loop-holds : tie.Need-loop-holds Inv-loop μ-loop
-loop-holds c = let a = c .before .args in
-    (omega arith, past-none (a .step) (a .first) (a .count - a .count) (omega arith),
-    start (rw (length-progression (a .step) (a .first) (a .count)) (c .before .pre)))
+loop-holds c = let a = c .before .args in (
+  omega arith,
+  past-none (a .step) (a .first) (a .count - a .count) (omega arith),
+  start (rw (length-progression (a .step) (a .first) (a .count)) (c .before .pre)),
+)
 
 mul-out : tie.Need-mul-out Inv-loop μ-loop
 mul-out c = search needs
@@ -56,9 +58,11 @@ loop-again c = let i = c .before in
     let a = l .before .before .args in
     let h = i .loop-test .taken in
     let k = l .loop .left in
-    let on = past-more (a .step) (a .first) (a .count - k) (a .count - (k - 1)) (omega arith) in
-    (omega arith, c .wrapping-add-u16 .ensures ∙ ap (onward (a .step)) (l .loop .inv .1) ∙ on,
-    rw (c .wrapping-add-u16 .ensures) (put (next i) (l .loop .inv .2)))
+    let on = past-more (a .step) (a .first) (a .count - k) (a .count - (k - 1)) (omega arith) in (
+      omega arith,
+      c .wrapping-add-u16 .ensures ∙ ap (onward (a .step)) (l .loop .inv .1) ∙ on,
+      rw (c .wrapping-add-u16 .ensures) (put (next i) (l .loop .inv .2)),
+    )
 
 same-length : tie.Need-same-length Inv-loop μ-loop
 same-length c = search needs
@@ -66,9 +70,10 @@ same-length c = search needs
 returns : tie.Need-returns Inv-loop μ-loop
 returns c = let l = c .before in
     let a = l .before .before .args in
-    let e : a .count - l .loop .left ≡ a .count = omega (arith, c .loop-test .left) in
-    (ended (progression-none (a .step) (l .loop .x) (l .loop .left) (c .loop-test .left)) (l .loop .inv .2),
-    l .loop .inv .1 ∙ ap (past (a .step) (a .first)) e)
+    let e : a .count - l .loop .left ≡ a .count = omega (arith, c .loop-test .left) in (
+      ended (progression-none (a .step) (l .loop .x) (l .loop .left) (c .loop-test .left)) (l .loop .inv .2),
+      l .loop .inv .1 ∙ ap (past (a .step) (a .first)) e,
+    )
 
 pub store-run-spec : {M : Type 1} → statement M
 store-run-spec =

@@ -1,5 +1,5 @@
--- `rle::word::store_vector` meets its contract: what is still to be stored are the numbers of the ones left in v. Assumes
--- nothing.
+-- `rle::word::store_vector` meets its contract: what is still to be stored are the numbers of the ones left in v.
+-- Assumes nothing.
 use Prim.Native.Nat.{_+_, _-_, _%_, _^_, _*_, _<_}
 use mathlib.Core.List.{_∷_}
 use mathlib.Core.Path.{_≡_, ap}
@@ -16,13 +16,15 @@ use Rattle.rle.proofs.word.store_vector.Tie as tie
 
 abbrev Inv-loop : tie.InvT-loop
 Inv-loop out₀ at w room first step v₀ n₀ out v n =
-    (v < 2 ^ room) × Storing out₀ at (along step first (take room (valuesIn w))) out (along step first (digits room v)) n
+    (v < 2 ^ room)
+    × Storing out₀ at (along step first (take room (valuesIn w))) out (along step first (digits room v)) n
 
 abbrev μ-loop : tie.MeasureT-loop
 μ-loop out₀ at w room first step v₀ n₀ out v n = v
 
 -- the highest one comes next
-next : (c : tie.After-top-bit Inv-loop μ-loop) → let l = c .before .before in let a = l .before .before .before .args in
+next : (c : tie.After-top-bit Inv-loop μ-loop) → let l = c .before .before in
+    let a = l .before .before .before .args in
     along (a .step) (a .first) (digits (a .room) (l .loop .v))
     ≡ (a .first + (a .room - 1 - c .top-bit .result) * a .step) % 65536
     ∷ along (a .step) (a .first) (digits (a .room) (l .loop .v - 2 ^ c .top-bit .result))
@@ -31,7 +33,8 @@ next c = let l = c .before .before in let a = l .before .before .before .args in
     along-top (a .step) (a .first) (a .room) (l .loop .v) (t .result) (omega arith) (l .loop .inv .0) (t .ensures)
 
 -- it is one of the places asked
-asked : (c : tie.After-top-bit Inv-loop μ-loop) → c .top-bit .result < c .before .before .before .before .before .args .room
+asked : (c : tie.After-top-bit Inv-loop μ-loop)
+    → c .top-bit .result < c .before .before .before .before .before .args .room
 asked c = let l = c .before .before in
     top-below (l .before .before .before .args .room) (l .loop .inv .0) (c .top-bit .ensures)
 
@@ -53,11 +56,11 @@ shr-v c = search needs
 loop-holds : tie.Need-loop-holds Inv-loop μ-loop
 loop-holds c = let s = c .before .before in
     let a = s .args in
+    let b = c .vector-bits .ensures in
     let f : a .room + (15 - a .room) ≡ 15 = omega (arith, s .pre .1) in
-    let k : c .vector-bits .result < 2 ^ 15 = omega (arith, c .vector-bits .ensures) in
-    let e = digits-vector (a .w) (s .pre .0) (a .room) (s .pre .1) in
-    (shr-lt (a .room) (15 - a .room) (rw f k),
-    rw (c .vector-bits .ensures) (skip (ap (along (a .step) (a .first)) e) (start (s .pre .2))))
+    let k : c .vector-bits .result < 2 ^ 15 = omega (arith, b) in
+    let e = ap (along (a .step) (a .first)) (digits-vector (a .w) (s .pre .0) (a .room) (s .pre .1)) in
+    (shr-lt (a .room) (15 - a .room) (rw f k), rw b (skip e (start (s .pre .2))))
 
 top-bit-requires : tie.Need-top-bit-requires Inv-loop μ-loop
 top-bit-requires c κs = search needs
@@ -89,9 +92,9 @@ loop-less c = let t = c .before .before .top-bit in
 
 loop-again : tie.Need-loop-again Inv-loop μ-loop
 loop-again c = let t = c .before .before in
-    let l = t .before .before in
-    (omega (arith, c .without-top .ensures, l .loop .inv .0),
-    rw (c .before .number-on .ensures, c .without-top .ensures) (put (next t) (l .loop .inv .1)))
+    let i = t .before .before .loop .inv in
+    let e = c .without-top .ensures in
+    (omega (arith, e, i .0), rw (c .before .number-on .ensures, e) (put (next t) (i .1)))
 
 same-length : tie.Need-same-length Inv-loop μ-loop
 same-length c = search needs

@@ -50,9 +50,11 @@ lesser-requires-2 c κs = search needs
 store-vector-requires : tie.Need-store-vector-requires
 store-vector-requires c κs = let t = c .before .before in
     let s = t .before .before .before in
-    let a = s .args in
-    (t .if2 .left, omega arith,
-    rw (c .lesser2 .ensures, word-vector (a .step) (a .first) (a .room) (a .w) (t .if2 .left)) (s .pre))
+    let a = s .args in (
+      t .if2 .left,
+      omega arith,
+      rw (c .lesser2 .ensures, word-vector (a .step) (a .first) (a .room) (a .w) (t .if2 .left)) (s .pre),
+    )
 
 same-length-2 : tie.Need-same-length-2
 same-length-2 c = search needs

@@ -1,4 +1,4 @@
--- `rle::word::top_bit` meets its contract: the leading zeros and the digits below the highest make 32. Assumes nothing.
+-- `rle::word::top_bit` meets its contract: leading zeros and the digits below the highest make 32. Assumes nothing.
 use lib.Count.{leadingZeros, leading-le, leading-top}
 use native.Mathlib.Omega.{arith}
 use mathlib.Core.Path.{_≡_}
