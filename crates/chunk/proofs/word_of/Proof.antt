@@ -8,42 +8,6 @@ use Rattle.def_standard.specs.declared.MadeWord.the-variants.{Word}
 use Rattle.chunk.proofs.word_of.Statement.{statement}
 use Rattle.chunk.proofs.word_of.Tie as tie
 
-enum-told : tie.Need-enum-told
-enum-told c = search needs
-
-enum-known-c : tie.Need-enum-known-c
-enum-known-c c = search needs
-
-cast-t8 : tie.Need-cast-t8
-cast-t8 c = search needs
-
-cast-t9 : tie.Need-cast-t9
-cast-t9 c = search needs
-
-enum-known-c-2 : tie.Need-enum-known-c-2
-enum-known-c-2 c = search needs
-
-cast-run-word : tie.Need-cast-run-word
-cast-run-word c = search needs
-
-run-word-requires : tie.Need-run-word-requires
-run-word-requires c κs = search needs
-
-cast-t15 : tie.Need-cast-t15
-cast-t15 c = search needs
-
-enum-known-c-3 : tie.Need-enum-known-c-3
-enum-known-c-3 c = search needs
-
-cast-vector-word : tie.Need-cast-vector-word
-cast-vector-word c = search needs
-
-vector-word-requires : tie.Need-vector-word-requires
-vector-word-requires c κs = search needs
-
-cast-t21 : tie.Need-cast-t21
-cast-t21 c = search needs
-
 returns : tie.Need-returns
 returns c = sym (ap wordOf (c .enum-told .given .1) ∙ word-null)
 
@@ -77,23 +41,6 @@ returns-7 c = let k = c .before .before in
 pub word-of-spec : {M : Type 1} → statement M
 word-of-spec =
     tie.close
-    (tie.spec
-    enum-told
-    enum-known-c
-    cast-t8
-    cast-t9
-    enum-known-c-2
-    cast-run-word
-    run-word-requires
-    cast-t15
-    enum-known-c-3
-    cast-vector-word
-    vector-word-requires
-    cast-t21
-    returns
-    returns-2
-    returns-3
-    returns-4
-    returns-5
-    returns-6
-    returns-7)
+    (tie.spec (λ c. search needs) (λ c. search needs) (λ c. search needs) (λ c. search needs) (λ c. search needs)
+    (λ c. search needs) (λ c κs. search needs) (λ c. search needs) (λ c. search needs) (λ c. search needs)
+    (λ c κs. search needs) (λ c. search needs) returns returns-2 returns-3 returns-4 returns-5 returns-6 returns-7)

@@ -18,12 +18,6 @@ returns-2 c = let a = c .before .before .args in
     let low : a .a - 1 < 2 ^ a .t = omega arith in
     sym (ceil-pos (a .a) (2 ^ a .t) (pow-pos (a .t)) (omega arith) ∙ (rw (div-eq-of-lt low)))
 
-sub-result : tie.Need-sub-result
-sub-result c = search needs
-
-shr-result : tie.Need-shr-result
-shr-result c = search needs
-
 add-result : tie.Need-add-result
 add-result c = let a = c .before .before .args in omega (arith, shr-le (a .a - 1) (a .t))
 
@@ -31,4 +25,5 @@ returns-3 : tie.Need-returns-3
 returns-3 c = let a = c .before .before .args in sym (ceil-pos (a .a) (2 ^ a .t) (pow-pos (a .t)) (omega arith))
 
 pub ceil-shift-spec : {M : Type 1} → statement M
-ceil-shift-spec = tie.close (tie.spec returns returns-2 sub-result shr-result add-result returns-3)
+ceil-shift-spec =
+    tie.close (tie.spec returns returns-2 (λ c. search needs) (λ c. search needs) add-result returns-3)

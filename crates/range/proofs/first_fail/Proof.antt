@@ -13,24 +13,6 @@ returns : tie.Need-returns
 returns c = let a = c .before .args in
     first-nowhere (a .start) (a .end) (a .thinning) (omega arith) (omega arith) (c .if1 .taken)
 
-add-gap : tie.Need-add-gap
-add-gap c = search needs
-
-sub-gap : tie.Need-sub-gap
-sub-gap c = search needs
-
-add-gap-2 : tie.Need-add-gap-2
-add-gap-2 c = search needs
-
-ceil-shift-requires : tie.Need-ceil-shift-requires
-ceil-shift-requires c κs = search needs
-
-times-two-to-requires : tie.Need-times-two-to-requires
-times-two-to-requires c κs = search needs
-
-again-from-requires : tie.Need-again-from-requires
-again-from-requires c κs = search needs
-
 -- the distance that is tested
 far : (f : tie.After-again-from) → let l = f .before .before in let a = l .before .before .args in
     f .before .times-two-to .result ≡ ceilDiv (gapOf (a .start) (a .end)) (2 ^ a .thinning) * 2 ^ a .thinning
@@ -55,13 +37,5 @@ returns-3 c = let f = c .before in
 pub first-fail-spec : {M : Type 1} → statement M
 first-fail-spec =
     tie.close
-    (tie.spec
-    returns
-    add-gap
-    sub-gap
-    add-gap-2
-    ceil-shift-requires
-    times-two-to-requires
-    again-from-requires
-    returns-2
-    returns-3)
+    (tie.spec returns (λ c. search needs) (λ c. search needs) (λ c. search needs) (λ c κs. search needs)
+    (λ c κs. search needs) (λ c κs. search needs) returns-2 returns-3)

@@ -11,9 +11,6 @@ use Rattle.rle.proofs.count_crate.Tie as tie
 cut : (f : tie.After-lesser) → let n = f .lesser .result in n ≡ length (take n (f .before .before .args .bytes .now))
 cut f = length-cut (f .before .before .args .bytes .now) 262144 (f .lesser .result) (f .lesser .ensures)
 
-lesser-requires : tie.Need-lesser-requires
-lesser-requires c κs = search needs
-
 slice-aggregate-tally-crate : tie.Need-slice-aggregate-tally-crate
 slice-aggregate-tally-crate c = cut (c .before)
 
@@ -27,4 +24,4 @@ returns c = let f = c .before .before in
 
 pub count-crate-spec : {M : Type 1} → statement M
 count-crate-spec =
-    tie.close (tie.spec lesser-requires slice-aggregate-tally-crate tally-crate-requires returns)
+    tie.close (tie.spec (λ c κs. search needs) slice-aggregate-tally-crate tally-crate-requires returns)

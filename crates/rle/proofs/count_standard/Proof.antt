@@ -66,30 +66,9 @@ module _ (c : tie.After-ones-before Inv-loop μ-loop) (g : Range) where
   more = let p = c .before .pair in
       rw (← p .ensures) (c .ones-before .ensures ∙ length-ones _ _ (head .loop .left) (p .result))
 
-inside-count-requires : tie.Need-inside-count-requires Inv-loop μ-loop
-inside-count-requires c κs = search needs
-
 loop-holds : tie.Need-loop-holds Inv-loop μ-loop
 loop-holds c = let b = c .before .before .args .bytes .now in
     (omega arith, λ g e. (omega (arith, e), rw (e, ← here-start g b) (record { count = omega arith })))
-
-add-loop : tie.Need-add-loop Inv-loop μ-loop
-add-loop c = search needs
-
-shared-slice-read-pair : tie.Need-shared-slice-read-pair Inv-loop μ-loop
-shared-slice-read-pair c = search needs
-
-add-pair : tie.Need-add-pair Inv-loop μ-loop
-add-pair c = search needs
-
-shared-slice-read-pair-2 : tie.Need-shared-slice-read-pair-2 Inv-loop μ-loop
-shared-slice-read-pair-2 c = search needs
-
-pair-requires : tie.Need-pair-requires Inv-loop μ-loop
-pair-requires c κs = search needs
-
-ones-before-requires : tie.Need-ones-before-requires Inv-loop μ-loop
-ones-before-requires c κs = search needs
 
 add-n : tie.Need-add-n Inv-loop μ-loop
 add-n c = let l = c .before .before .before .before .before in
@@ -97,27 +76,12 @@ add-n c = let l = c .before .before .before .before .before in
     let k = count-room (here-turn c g (own l .0)) (own l .1) (more c g) in
     omega (arith, k, length-numbers g (words16 (entry l .args .bytes .now)), inside-count-le g)
 
-covers-requires : tie.Need-covers-requires Inv-loop μ-loop
-covers-requires c κs = search needs
-
-cast-covered : tie.Need-cast-covered Inv-loop μ-loop
-cast-covered c = search needs
-
 returns : tie.Need-returns Inv-loop μ-loop
 returns c = let o = c .before .before in
     let l = o .before .before .before .before .before in
     let g = entry l .args .g in
     let e = rw (c .before .covers .ensures, o .before .pair .ensures) at (c .if1 .taken) in
     count-last (here-turn o g (own l .0)) (own l .1) (more o g) (le-leb _ _ e)
-
-sub-left : tie.Need-sub-left Inv-loop μ-loop
-sub-left c = search needs
-
-add-at : tie.Need-add-at Inv-loop μ-loop
-add-at c = search needs
-
-loop-less : tie.Need-loop-less Inv-loop μ-loop
-loop-less c = search needs
 
 loop-again : tie.Need-loop-again Inv-loop μ-loop
 loop-again c = let o = c .before .before in
@@ -138,23 +102,6 @@ returns-2 c = let l = c .before in
 pub count-standard-spec : {M : Type 1} → statement M
 count-standard-spec =
     tie.close
-    (tie.spec
-    Inv-loop
-    μ-loop
-    inside-count-requires
-    loop-holds
-    add-loop
-    shared-slice-read-pair
-    add-pair
-    shared-slice-read-pair-2
-    pair-requires
-    ones-before-requires
-    add-n
-    covers-requires
-    cast-covered
-    returns
-    sub-left
-    add-at
-    loop-less
-    loop-again
-    returns-2)
+    (tie.spec Inv-loop μ-loop (λ c κs. search needs) loop-holds (λ c. search needs) (λ c. search needs)
+    (λ c. search needs) (λ c. search needs) (λ c κs. search needs) (λ c κs. search needs) add-n (λ c κs. search needs)
+    (λ c. search needs) returns (λ c. search needs) (λ c. search needs) (λ c. search needs) loop-again returns-2)

@@ -60,9 +60,6 @@ room c = let m = c .before .before in
     (λ w. omega (arith, w .left, m .at-most .ensures, most (m .before .before)))
     (c .if2 .came)
 
-lesser-requires : tie.Need-lesser-requires
-lesser-requires c κs = search needs
-
 slice-aggregate-part : tie.Need-slice-aggregate-part
 slice-aggregate-part c = cut (c .before)
 
@@ -87,9 +84,6 @@ returns-2 c = let n = c .before in
 list-crate-requires : tie.Need-list-crate-requires
 list-crate-requires c κs = room (c .before)
 
-same-length : tie.Need-same-length
-same-length c = search needs
-
 returns-3 : tie.Need-returns-3
 returns-3 c = let r = c .before .before in
     let j = r .before .before in
@@ -99,13 +93,5 @@ returns-3 c = let r = c .before .before in
 pub fill-crate-spec : {M : Type 1} → statement M
 fill-crate-spec =
     tie.close
-    (tie.spec
-    lesser-requires
-    slice-aggregate-part
-    at-most-requires
-    returns
-    tally-crate-requires
-    returns-2
-    list-crate-requires
-    same-length
-    returns-3)
+    (tie.spec (λ c κs. search needs) slice-aggregate-part at-most-requires returns tally-crate-requires returns-2
+    list-crate-requires (λ c. search needs) returns-3)

@@ -24,12 +24,6 @@ room c = let v = c .before in
     (λ w. omega (arith, w .left, v .inside-count .ensures, length-numbers (a .g) (words16 (a .bytes .now))))
     (c .if1 .came)
 
-inside-count-requires : tie.Need-inside-count-requires
-inside-count-requires c κs = search needs
-
-count-standard-requires : tie.Need-count-standard-requires
-count-standard-requires c κs = search needs
-
 returns : tie.Need-returns
 returns c = let n = c .before in
     let a = n .before .before .before .before .before .args in
@@ -38,9 +32,6 @@ returns c = let n = c .before in
 
 list-standard-requires : tie.Need-list-standard-requires
 list-standard-requires c κs = room (c .before)
-
-same-length : tie.Need-same-length
-same-length c = search needs
 
 returns-2 : tie.Need-returns-2
 returns-2 c = let r = c .before .before in
@@ -52,10 +43,5 @@ returns-2 c = let r = c .before .before in
 pub fill-standard-spec : {M : Type 1} → statement M
 fill-standard-spec =
     tie.close
-    (tie.spec
-    inside-count-requires
-    count-standard-requires
-    returns
-    list-standard-requires
-    same-length
+    (tie.spec (λ c κs. search needs) (λ c κs. search needs) returns list-standard-requires (λ c. search needs)
     returns-2)

@@ -10,15 +10,6 @@ use borrow.Author.Needs.{needs}
 use Rattle.rle.proofs.fill_words.Statement.{statement}
 use Rattle.rle.proofs.fill_words.Tie as tie
 
-count-words-requires : tie.Need-count-words-requires
-count-words-requires c κs = search needs
-
-list-words-requires : tie.Need-list-words-requires
-list-words-requires c κs = search needs
-
-same-length : tie.Need-same-length
-same-length c = search needs
-
 returns : tie.Need-returns
 returns c = let r = c .before .before in
     let n = r .before .before .before in
@@ -35,4 +26,4 @@ returns-2 c = let a = c .before .before .before .before .args in
 
 pub fill-words-spec : {M : Type 1} → statement M
 fill-words-spec =
-    tie.close (tie.spec count-words-requires list-words-requires same-length returns returns-2)
+    tie.close (tie.spec (λ c κs. search needs) (λ c κs. search needs) (λ c. search needs) returns returns-2)

@@ -28,18 +28,9 @@ count : (o : tie.After-ones-before) → o .ones-before .result ≡ length (asked
 count o = let r = o .before .before in let a = r .before .before .args in
     o .ones-before .ensures ∙ length-ones (a .step) (a .first) (a .room) (r .rest-of .result) ∙ ap length (rest r)
 
-rest-of-requires : tie.Need-rest-of-requires
-rest-of-requires c κs = search needs
-
 returns : tie.Need-returns
 returns c = let s = c .before .before .before in
     rw (fitting-none (length (s .args .out .now)) (s .args .at) (asked s) (let h = c .if1 .taken in omega arith)) none
-
-sub-if2 : tie.Need-sub-if2
-sub-if2 c = search needs
-
-ones-before-requires : tie.Need-ones-before-requires
-ones-before-requires c κs = search needs
 
 returns-2 : tie.Need-returns-2
 returns-2 c = let s = c .before .before .before .before .before in
@@ -50,9 +41,6 @@ returns-2 c = let s = c .before .before .before .before .before in
 store-word-requires : tie.Need-store-word-requires
 store-word-requires c κs = let o = c .before .before in
     rw (rest (o .before .before)) (omega (arith, c .before .if2 .left, o .before .if1 .left, count o))
-
-same-length : tie.Need-same-length
-same-length c = search needs
 
 returns-3 : tie.Need-returns-3
 returns-3 c = let w = c .before .before in
@@ -67,12 +55,5 @@ returns-3 c = let w = c .before .before in
 pub put-places-spec : {M : Type 1} → statement M
 put-places-spec =
     tie.close
-    (tie.spec
-    rest-of-requires
-    returns
-    sub-if2
-    ones-before-requires
-    returns-2
-    store-word-requires
-    same-length
-    returns-3)
+    (tie.spec (λ c κs. search needs) returns (λ c. search needs) (λ c κs. search needs) returns-2 store-word-requires
+    (λ c. search needs) returns-3)

@@ -141,15 +141,6 @@ next c = let v = c .before .before in let p = head v in let a = entry (top p) .a
     (λ w. (w .1 ∙ sym (unmoved (w .0 .left)) ∙ cov, rw (w .1, w .2) (p .list-runs .ensures .fails)))
     (c .if4 .came)
 
-doubled-requires : tie.Need-doubled-requires Inv-loop μ-loop
-doubled-requires c κs = search needs
-
-last-of-requires : tie.Need-last-of-requires Inv-loop μ-loop
-last-of-requires c κs = search needs
-
-first-fail-requires : tie.Need-first-fail-requires Inv-loop μ-loop
-first-fail-requires c κs = search needs
-
 loop-holds : tie.Need-loop-holds Inv-loop μ-loop
 loop-holds c = let s = c .before .before .before .before .before in
     (omega arith, omega arith, c .first-fail .ensures, begun (omega (arith, s .pre)))
@@ -170,21 +161,6 @@ returns c = let p = c .before .before .before in
     let h : length (a .bytes .now) ≤ r .at + 1 = omega (arith, c .if1 .taken, last) in
     done (here-end (a .end) (a .thinning) (a .bytes .now) (r .at) (r .start) h) (passed p)
 
-shared-slice-read-pair : tie.Need-shared-slice-read-pair Inv-loop μ-loop
-shared-slice-read-pair c = search needs
-
-add-pair : tie.Need-add-pair Inv-loop μ-loop
-add-pair c = search needs
-
-shared-slice-read-pair-2 : tie.Need-shared-slice-read-pair-2 Inv-loop μ-loop
-shared-slice-read-pair-2 c = search needs
-
-pair-requires : tie.Need-pair-requires Inv-loop μ-loop
-pair-requires c κs = search needs
-
-covers-requires : tie.Need-covers-requires Inv-loop μ-loop
-covers-requires c κs = search needs
-
 stop-at-requires : tie.Need-stop-at-requires Inv-loop μ-loop
 stop-at-requires c κs = head (c .before) .list-runs .ensures .fails
 
@@ -194,9 +170,6 @@ store-word-requires c κs = let q = c .before in
     let p = head v in
     rw (along-same (p .list-runs .result .start) (stepped (top p)) (stops q) (v .before .pair .ensures))
     (fill-room (here-turn v) (passed p))
-
-cast-if3 : tie.Need-cast-if3 Inv-loop μ-loop
-cast-if3 c = search needs
 
 same-length-2 : tie.Need-same-length-2 Inv-loop μ-loop
 same-length-2 c = let w = c .before .before .before in
@@ -210,14 +183,8 @@ returns-2 c = let w = c .before .before .before in
     let e : stop p < coversOf (word p) = rw (← stops q, ← covered v) (c .if3 .taken) in
     fill-last (here-turn v) (passed p) (stored w) (lt-ltb _ _ e)
 
-moved-by-requires : tie.Need-moved-by-requires Inv-loop μ-loop
-moved-by-requires c κs = search needs
-
 next-fail-requires : tie.Need-next-fail-requires Inv-loop μ-loop
 next-fail-requires c κs = (head (c .before .before .before) .list-runs .ensures .fails, c .moved-by .ensures)
-
-add-at : tie.Need-add-at Inv-loop μ-loop
-add-at c = search needs
 
 loop-less : tie.Need-loop-less Inv-loop μ-loop
 loop-less c = let v = c .before .before in omega (arith, more v, head v .list-runs .ensures .onward)
@@ -243,30 +210,8 @@ returns-3 c = let l = c .before in
 pub list-crate-spec : {M : Type 1} → statement M
 list-crate-spec =
     tie.close
-    (tie.spec
-    Inv-loop
-    μ-loop
-    doubled-requires
-    last-of-requires
-    first-fail-requires
-    loop-holds
-    list-runs-requires
-    same-length
-    returns
-    shared-slice-read-pair
-    add-pair
-    shared-slice-read-pair-2
-    pair-requires
-    covers-requires
-    stop-at-requires
-    store-word-requires
-    cast-if3
-    same-length-2
-    returns-2
-    moved-by-requires
-    next-fail-requires
-    add-at
-    loop-less
-    loop-again
-    same-length-3
-    returns-3)
+    (tie.spec Inv-loop μ-loop (λ c κs. search needs) (λ c κs. search needs) (λ c κs. search needs) loop-holds
+    list-runs-requires same-length returns (λ c. search needs) (λ c. search needs) (λ c. search needs)
+    (λ c κs. search needs) (λ c κs. search needs) stop-at-requires store-word-requires (λ c. search needs)
+    same-length-2 returns-2 (λ c κs. search needs) next-fail-requires (λ c. search needs) loop-less loop-again
+    same-length-3 returns-3)

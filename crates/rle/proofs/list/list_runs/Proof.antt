@@ -58,32 +58,11 @@ loop-holds c = let s = c .before .before in let a = s .args in
     begun (a .end) (a .thinning) (a .bytes .now) (a .from) (a .begin) (a .out .now) (a .stored) (a .clear) (s .pre .1)
     (omega arith) (s .pre .2)
 
-shared-slice-read-pair : tie.Need-shared-slice-read-pair Inv-loop μ-loop
-shared-slice-read-pair c = search needs
-
-add-pair : tie.Need-add-pair Inv-loop μ-loop
-add-pair c = search needs
-
-shared-slice-read-pair-2 : tie.Need-shared-slice-read-pair-2 Inv-loop μ-loop
-shared-slice-read-pair-2 c = search needs
-
-pair-requires : tie.Need-pair-requires Inv-loop μ-loop
-pair-requires c κs = search needs
-
-is-clear-run-requires : tie.Need-is-clear-run-requires Inv-loop μ-loop
-is-clear-run-requires c κs = search needs
-
 same-length : tie.Need-same-length Inv-loop μ-loop
 same-length c = same (c .before .before .before .before .before .before .loop .inv .wrote)
 
 returns : tie.Need-returns Inv-loop μ-loop
 returns c = c .before .before .before .before .before .before .loop .inv
-
-run-length-requires : tie.Need-run-length-requires Inv-loop μ-loop
-run-length-requires c κs = search needs
-
-cast-store-run : tie.Need-cast-store-run Inv-loop μ-loop
-cast-store-run c = search needs
 
 store-run-requires : tie.Need-store-run-requires Inv-loop μ-loop
 store-run-requires c κs = let r = c .before in
@@ -95,12 +74,6 @@ store-run-requires c κs = let r = c .before in
 
 next-fail-requires : tie.Need-next-fail-requires Inv-loop μ-loop
 next-fail-requires c κs = let w = c .before .before in (head (w .before .before .before) .loop .inv .fails, moved w)
-
-add-at : tie.Need-add-at Inv-loop μ-loop
-add-at c = search needs
-
-loop-less : tie.Need-loop-less Inv-loop μ-loop
-loop-less c = search needs
 
 loop-again : tie.Need-loop-again Inv-loop μ-loop
 loop-again c = let w = c .before .before .before in
@@ -122,23 +95,6 @@ returns-2 c = c .before .loop .inv
 pub list-runs-spec : {M : Type 1} → statement M
 list-runs-spec =
     tie.close
-    (tie.spec
-    Inv-loop
-    μ-loop
-    loop-holds
-    shared-slice-read-pair
-    add-pair
-    shared-slice-read-pair-2
-    pair-requires
-    is-clear-run-requires
-    same-length
-    returns
-    run-length-requires
-    cast-store-run
-    store-run-requires
-    next-fail-requires
-    add-at
-    loop-less
-    loop-again
-    same-length-2
-    returns-2)
+    (tie.spec Inv-loop μ-loop loop-holds (λ c. search needs) (λ c. search needs) (λ c. search needs)
+    (λ c κs. search needs) (λ c κs. search needs) same-length returns (λ c κs. search needs) (λ c. search needs)
+    store-run-requires next-fail-requires (λ c. search needs) (λ c. search needs) loop-again same-length-2 returns-2)

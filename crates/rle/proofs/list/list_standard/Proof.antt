@@ -58,46 +58,16 @@ here-turn : (i : tie.In-loop Inv-loop μ-loop) → let l = i .before in let k = 
 here-turn i = let k = i .before .loop in let a = entry (i .before) .args in
     turn (a .g) (a .bytes .now) (k .at) (k .left) (k .first) (k .inv .1) (i .loop-test .taken)
 
-doubled-requires : tie.Need-doubled-requires Inv-loop μ-loop
-doubled-requires c κs = search needs
-
-inside-count-requires : tie.Need-inside-count-requires Inv-loop μ-loop
-inside-count-requires c κs = search needs
-
 loop-holds : tie.Need-loop-holds Inv-loop μ-loop
 loop-holds c = let a = c .before .before .before .before .args in
     let k = c .inside-count .ensures in
     let e = here-start (a .g) (a .bytes .now) in
     (omega arith, rw k (begin-standing (a .g) (search needs)), rw k (skip e (start (omega arith))))
 
-add-loop : tie.Need-add-loop Inv-loop μ-loop
-add-loop c = search needs
-
-shared-slice-read-pair : tie.Need-shared-slice-read-pair Inv-loop μ-loop
-shared-slice-read-pair c = search needs
-
-add-pair : tie.Need-add-pair Inv-loop μ-loop
-add-pair c = search needs
-
-shared-slice-read-pair-2 : tie.Need-shared-slice-read-pair-2 Inv-loop μ-loop
-shared-slice-read-pair-2 c = search needs
-
-pair-requires : tie.Need-pair-requires Inv-loop μ-loop
-pair-requires c κs = search needs
-
 store-word-requires : tie.Need-store-word-requires Inv-loop μ-loop
 store-word-requires c κs = let p = c .before in
     let i = p .before .before .before in
     rw (stepped (i .before), p .pair .ensures) (fill-room (here-turn i) (i .before .loop .inv .2))
-
-covers-requires : tie.Need-covers-requires Inv-loop μ-loop
-covers-requires c κs = search needs
-
-cast-if1 : tie.Need-cast-if1 Inv-loop μ-loop
-cast-if1 c = search needs
-
-same-length : tie.Need-same-length Inv-loop μ-loop
-same-length c = search needs
 
 returns : tie.Need-returns Inv-loop μ-loop
 returns c = let w = c .before .before .before .before in
@@ -106,21 +76,6 @@ returns c = let w = c .before .before .before .before in
     let k : l .loop .left ≤ coversOf (word l) =
     rw (← w .before .before .pair .ensures, ← c .before .covers .ensures) (c .if1 .taken) in
     fill-last (here-turn i) (l .loop .inv .2) (stored w) (le-leb _ _ k)
-
-cast-left : tie.Need-cast-left Inv-loop μ-loop
-cast-left c = search needs
-
-sub-left : tie.Need-sub-left Inv-loop μ-loop
-sub-left c = search needs
-
-moved-by-requires : tie.Need-moved-by-requires Inv-loop μ-loop
-moved-by-requires c κs = search needs
-
-add-at : tie.Need-add-at Inv-loop μ-loop
-add-at c = search needs
-
-loop-less : tie.Need-loop-less Inv-loop μ-loop
-loop-less c = search needs
 
 loop-again : tie.Need-loop-again Inv-loop μ-loop
 loop-again c = let v = c .before .before in
@@ -133,9 +88,6 @@ loop-again c = let v = c .before .before in
     let f = fill-next (here-turn i) (l .loop .inv .2) (stored w) (lt-leb _ _ k) in
     (omega arith, rw (c .moved-by .ensures, cov) s, rw cov f)
 
-same-length-2 : tie.Need-same-length-2 Inv-loop μ-loop
-same-length-2 c = search needs
-
 returns-2 : tie.Need-returns-2 Inv-loop μ-loop
 returns-2 c = let l = c .before in
     let a = entry l .args in
@@ -144,27 +96,7 @@ returns-2 c = let l = c .before in
 pub list-standard-spec : {M : Type 1} → statement M
 list-standard-spec =
     tie.close
-    (tie.spec
-    Inv-loop
-    μ-loop
-    doubled-requires
-    inside-count-requires
-    loop-holds
-    add-loop
-    shared-slice-read-pair
-    add-pair
-    shared-slice-read-pair-2
-    pair-requires
-    store-word-requires
-    covers-requires
-    cast-if1
-    same-length
-    returns
-    cast-left
-    sub-left
-    moved-by-requires
-    add-at
-    loop-less
-    loop-again
-    same-length-2
-    returns-2)
+    (tie.spec Inv-loop μ-loop (λ c κs. search needs) (λ c κs. search needs) loop-holds (λ c. search needs)
+    (λ c. search needs) (λ c. search needs) (λ c. search needs) (λ c κs. search needs) store-word-requires
+    (λ c κs. search needs) (λ c. search needs) (λ c. search needs) returns (λ c. search needs) (λ c. search needs)
+    (λ c κs. search needs) (λ c. search needs) (λ c. search needs) loop-again (λ c. search needs) returns-2)

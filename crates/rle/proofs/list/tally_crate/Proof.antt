@@ -114,35 +114,8 @@ next c = let v = c .before .before in let l = head v in let a = entry l .args in
     (λ w. (w .1 ∙ sym (same (w .0 .left)) ∙ cov, rw (w .1, w .2) (l .loop .inv .2)))
     (c .if3 .came)
 
-first-fail-requires : tie.Need-first-fail-requires Inv-loop μ-loop
-first-fail-requires c κs = search needs
-
 loop-holds : tie.Need-loop-holds Inv-loop μ-loop
 loop-holds c = (omega arith, omega arith, c .first-fail .ensures, record { count = omega arith })
-
-add-loop : tie.Need-add-loop Inv-loop μ-loop
-add-loop c = search needs
-
-shared-slice-read-pair : tie.Need-shared-slice-read-pair Inv-loop μ-loop
-shared-slice-read-pair c = search needs
-
-add-pair : tie.Need-add-pair Inv-loop μ-loop
-add-pair c = search needs
-
-shared-slice-read-pair-2 : tie.Need-shared-slice-read-pair-2 Inv-loop μ-loop
-shared-slice-read-pair-2 c = search needs
-
-pair-requires : tie.Need-pair-requires Inv-loop μ-loop
-pair-requires c κs = search needs
-
-covers-requires : tie.Need-covers-requires Inv-loop μ-loop
-covers-requires c κs = search needs
-
-stop-at-requires : tie.Need-stop-at-requires Inv-loop μ-loop
-stop-at-requires c κs = search needs
-
-ones-before-requires : tie.Need-ones-before-requires Inv-loop μ-loop
-ones-before-requires c κs = search needs
 
 add-n : tie.Need-add-n Inv-loop μ-loop
 add-n c = let i = c .before .before .before .before .before .before .before in
@@ -152,9 +125,6 @@ add-n c = let i = c .before .before .before .before .before .before .before in
     let k = count-room (here-turn i) (l .loop .inv .3) (more c) in
     omega (arith, k, length-here (a .end) (a .thinning) (a .bytes .now) (a .begin) (omega arith) (s .pre))
 
-cast-if2 : tie.Need-cast-if2 Inv-loop μ-loop
-cast-if2 c = search needs
-
 returns : tie.Need-returns Inv-loop μ-loop
 returns c = let o = c .before in
     let v = o .before .before .before in
@@ -162,18 +132,6 @@ returns c = let o = c .before in
     let l = i .before in
     let e : stop l < coversOf (word l) = rw (← stops (o .before), ← covered v) (c .if2 .taken) in
     count-last (here-turn i) (l .loop .inv .3) (more o) (lt-ltb _ _ e)
-
-moved-by-requires : tie.Need-moved-by-requires Inv-loop μ-loop
-moved-by-requires c κs = search needs
-
-next-fail-requires : tie.Need-next-fail-requires Inv-loop μ-loop
-next-fail-requires c κs = search needs
-
-add-at : tie.Need-add-at Inv-loop μ-loop
-add-at c = search needs
-
-loop-less : tie.Need-loop-less Inv-loop μ-loop
-loop-less c = search needs
 
 loop-again : tie.Need-loop-again Inv-loop μ-loop
 loop-again c = let l = head (c .before .before) in
@@ -190,25 +148,7 @@ returns-2 c = let l = c .before in
 pub tally-crate-spec : {M : Type 1} → statement M
 tally-crate-spec =
     tie.close
-    (tie.spec
-    Inv-loop
-    μ-loop
-    first-fail-requires
-    loop-holds
-    add-loop
-    shared-slice-read-pair
-    add-pair
-    shared-slice-read-pair-2
-    pair-requires
-    covers-requires
-    stop-at-requires
-    ones-before-requires
-    add-n
-    cast-if2
-    returns
-    moved-by-requires
-    next-fail-requires
-    add-at
-    loop-less
-    loop-again
-    returns-2)
+    (tie.spec Inv-loop μ-loop (λ c κs. search needs) loop-holds (λ c. search needs) (λ c. search needs)
+    (λ c. search needs) (λ c. search needs) (λ c κs. search needs) (λ c κs. search needs) (λ c κs. search needs)
+    (λ c κs. search needs) add-n (λ c. search needs) returns (λ c κs. search needs) (λ c κs. search needs)
+    (λ c. search needs) (λ c. search needs) loop-again returns-2)

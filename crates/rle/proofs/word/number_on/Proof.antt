@@ -15,11 +15,6 @@ mul-result c = omega (arith, small c)
 add-result : tie.Need-add-result
 add-result c = omega (arith, small c)
 
-cast-result : tie.Need-cast-result
-cast-result c = search needs
-
-returns : tie.Need-returns
-returns c = search needs
-
 pub number-on-spec : {M : Type 1} → statement M
-number-on-spec = tie.close (tie.spec mul-result add-result cast-result returns)
+number-on-spec =
+    tie.close (tie.spec mul-result add-result (λ c. search needs) (λ c. search needs))

@@ -14,34 +14,10 @@ bits : (c : tie.After-lesser2) → let x = c .before .before .args .w * 2 ^ c .l
 bits c = let x = c .before .before .args .w * 2 ^ c .lesser2 .result in
     and-mask (x % 4294967296) 15 ∙ mod-mod-pow x 17 15
 
-run-length-requires : tie.Need-run-length-requires
-run-length-requires c κs = search needs
-
-cast-lesser : tie.Need-cast-lesser
-cast-lesser c = search needs
-
-lesser-requires : tie.Need-lesser-requires
-lesser-requires c κs = search needs
-
-cast-result : tie.Need-cast-result
-cast-result c = search needs
-
-sub-result : tie.Need-sub-result
-sub-result c = search needs
-
 returns : tie.Need-returns
 returns c = let t = c .before .before in
     let a = t .before .args in
     rw (rest-run (a .w) (a .place) (t .if1 .taken), c .lesser .ensures, c .before .run-length .ensures)
-
-lesser-requires-2 : tie.Need-lesser-requires-2
-lesser-requires-2 c κs = search needs
-
-cast-result-2 : tie.Need-cast-result-2
-cast-result-2 c = search needs
-
-shl-result : tie.Need-shl-result
-shl-result c = search needs
 
 cast-result-3 : tie.Need-cast-result-3
 cast-result-3 c = rw (bits c) (search needs)
@@ -56,16 +32,5 @@ returns-2 c = let a = c .before .before .args in
 pub rest-of-spec : {M : Type 1} → statement M
 rest-of-spec =
     tie.close
-    (tie.spec
-    run-length-requires
-    cast-lesser
-    lesser-requires
-    cast-result
-    sub-result
-    returns
-    lesser-requires-2
-    cast-result-2
-    shl-result
-    cast-result-3
-    add-result
-    returns-2)
+    (tie.spec (λ c κs. search needs) (λ c. search needs) (λ c κs. search needs) (λ c. search needs) (λ c. search needs)
+    returns (λ c κs. search needs) (λ c. search needs) (λ c. search needs) cast-result-3 add-result returns-2)

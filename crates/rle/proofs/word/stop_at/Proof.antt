@@ -9,12 +9,6 @@ use borrow.Author.Needs.{needs}
 use Rattle.rle.proofs.word.stop_at.Statement.{statement}
 use Rattle.rle.proofs.word.stop_at.Tie as tie
 
-covers-requires : tie.Need-covers-requires
-covers-requires c κs = search needs
-
-cast-covered : tie.Need-cast-covered
-cast-covered c = search needs
-
 returns : tie.Need-returns
 returns c = let v = c .before in
     let s = v .before in
@@ -38,20 +32,8 @@ returns-3 c = let e = c .before in
     let ones = stop-ones (a .start) (a .end) (a .thinning) (a .w) (omega arith) (omega arith) in
     s .pre ∙ sym (ones (e .if2 .left) (c .if3 .taken) k)
 
-stop-in-vector-requires : tie.Need-stop-in-vector-requires
-stop-in-vector-requires c κs = search needs
-
-returns-4 : tie.Need-returns-4
-returns-4 c = search needs
-
 pub stop-at-spec : {M : Type 1} → statement M
 stop-at-spec =
     tie.close
-    (tie.spec
-    covers-requires
-    cast-covered
-    returns
-    returns-2
-    returns-3
-    stop-in-vector-requires
-    returns-4)
+    (tie.spec (λ c κs. search needs) (λ c. search needs) returns returns-2 returns-3 (λ c κs. search needs)
+    (λ c. search needs))

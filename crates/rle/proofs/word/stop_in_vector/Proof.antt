@@ -44,12 +44,6 @@ tried c = let l = c .before .before in let a = l .before .before .args in
     sym (l .loop .inv .1)
     ∙ stop-top (a .start) (a .end) (a .thinning) 0 15 (l .loop .v) (t .result) (l .loop .inv .0) (t .ensures) ∙ (rw e)
 
-vector-bits-requires : tie.Need-vector-bits-requires Inv-loop μ-loop
-vector-bits-requires c κs = search needs
-
-cast-v : tie.Need-cast-v Inv-loop μ-loop
-cast-v c = search needs
-
 loop-holds : tie.Need-loop-holds Inv-loop μ-loop
 loop-holds c = let a = c .before .args in
     let e = digits-mod 15 15 (a .w) (omega arith) ∙ sym (digits-all (a .w) (c .before .pre)) in (
@@ -57,27 +51,12 @@ loop-holds c = let a = c .before .args in
       rw (c .vector-bits .ensures) (ap (stopFrom (a .start) (a .end) (a .thinning) 0) e),
     )
 
-top-bit-requires : tie.Need-top-bit-requires Inv-loop μ-loop
-top-bit-requires c κs = search needs
-
 sub-q : tie.Need-sub-q Inv-loop μ-loop
 sub-q c = omega (arith, top-below 15 (c .before .before .loop .inv .0) (c .top-bit .ensures))
-
-cast-moved-by : tie.Need-cast-moved-by Inv-loop μ-loop
-cast-moved-by c = search needs
-
-moved-by-requires : tie.Need-moved-by-requires Inv-loop μ-loop
-moved-by-requires c κs = search needs
-
-passes-requires : tie.Need-passes-requires Inv-loop μ-loop
-passes-requires c κs = search needs
 
 returns : tie.Need-returns Inv-loop μ-loop
 returns c = let t = c .before .before .before in
     sym (tried t ∙ (rw (sym (tested (c .before)) ∙ not-true _ (c .if1 .taken))))
-
-without-top-requires : tie.Need-without-top-requires Inv-loop μ-loop
-without-top-requires c κs = search needs
 
 loop-less : tie.Need-loop-less Inv-loop μ-loop
 loop-less c = let t = c .before .before .before .before .top-bit in
@@ -97,19 +76,6 @@ returns-2 c = let l = c .before in
 pub stop-in-vector-spec : {M : Type 1} → statement M
 stop-in-vector-spec =
     tie.close
-    (tie.spec
-    Inv-loop
-    μ-loop
-    vector-bits-requires
-    cast-v
-    loop-holds
-    top-bit-requires
-    sub-q
-    cast-moved-by
-    moved-by-requires
-    passes-requires
-    returns
-    without-top-requires
-    loop-less
-    loop-again
-    returns-2)
+    (tie.spec Inv-loop μ-loop (λ c κs. search needs) (λ c. search needs) loop-holds (λ c κs. search needs) sub-q
+    (λ c. search needs) (λ c κs. search needs) (λ c κs. search needs) returns (λ c κs. search needs) loop-less
+    loop-again returns-2)

@@ -38,21 +38,6 @@ asked : (c : tie.After-top-bit Inv-loop μ-loop)
 asked c = let l = c .before .before in
     top-below (l .before .before .before .args .room) (l .loop .inv .0) (c .top-bit .ensures)
 
-vector-bits-requires : tie.Need-vector-bits-requires Inv-loop μ-loop
-vector-bits-requires c κs = search needs
-
-cast-v : tie.Need-cast-v Inv-loop μ-loop
-cast-v c = search needs
-
-sub-v : tie.Need-sub-v Inv-loop μ-loop
-sub-v c = search needs
-
-cast-v-2 : tie.Need-cast-v-2 Inv-loop μ-loop
-cast-v-2 c = search needs
-
-shr-v : tie.Need-shr-v Inv-loop μ-loop
-shr-v c = search needs
-
 loop-holds : tie.Need-loop-holds Inv-loop μ-loop
 loop-holds c = let s = c .before .before in
     let a = s .args in
@@ -61,9 +46,6 @@ loop-holds c = let s = c .before .before in
     let k : c .vector-bits .result < 2 ^ 15 = omega (arith, b) in
     let e = ap (along (a .step) (a .first)) (digits-vector (a .w) (s .pre .0) (a .room) (s .pre .1)) in
     (shr-lt (a .room) (15 - a .room) (rw f k), rw b (skip e (start (s .pre .2))))
-
-top-bit-requires : tie.Need-top-bit-requires Inv-loop μ-loop
-top-bit-requires c κs = search needs
 
 sub-number-on : tie.Need-sub-number-on Inv-loop μ-loop
 sub-number-on c = omega (arith, asked c)
@@ -74,14 +56,8 @@ sub-number-on-2 c = omega (arith, asked c)
 number-on-requires : tie.Need-number-on-requires Inv-loop μ-loop
 number-on-requires c κs = let s = c .before .before .before .before .before in omega (arith, s .pre .1)
 
-mul-out : tie.Need-mul-out Inv-loop μ-loop
-mul-out c = search needs
-
 slice-write-out : tie.Need-slice-write-out Inv-loop μ-loop
 slice-write-out c = within (next (c .before)) (c .before .before .before .loop .inv .1)
-
-without-top-requires : tie.Need-without-top-requires Inv-loop μ-loop
-without-top-requires c κs = search needs
 
 add-n : tie.Need-add-n Inv-loop μ-loop
 add-n c = omega (arith, within (next (c .before .before)) (c .before .before .before .before .loop .inv .1))
@@ -96,9 +72,6 @@ loop-again c = let t = c .before .before in
     let e = c .without-top .ensures in
     (omega (arith, e, i .0), rw (c .before .number-on .ensures, e) (put (next t) (i .1)))
 
-same-length : tie.Need-same-length Inv-loop μ-loop
-same-length c = search needs
-
 returns : tie.Need-returns Inv-loop μ-loop
 returns c = let l = c .before in
     let a = l .before .before .before .args in
@@ -107,24 +80,6 @@ returns c = let l = c .before in
 pub store-vector-spec : {M : Type 1} → statement M
 store-vector-spec =
     tie.close
-    (tie.spec
-    Inv-loop
-    μ-loop
-    vector-bits-requires
-    cast-v
-    sub-v
-    cast-v-2
-    shr-v
-    loop-holds
-    top-bit-requires
-    sub-number-on
-    sub-number-on-2
-    number-on-requires
-    mul-out
-    slice-write-out
-    without-top-requires
-    add-n
-    loop-less
-    loop-again
-    same-length
-    returns)
+    (tie.spec Inv-loop μ-loop (λ c κs. search needs) (λ c. search needs) (λ c. search needs) (λ c. search needs)
+    (λ c. search needs) loop-holds (λ c κs. search needs) sub-number-on sub-number-on-2 number-on-requires
+    (λ c. search needs) slice-write-out (λ c κs. search needs) add-n loop-less loop-again (λ c. search needs) returns)

@@ -14,15 +14,6 @@ returns : tie.Need-returns
 returns c = let a = c .before .before .args in
     rw (word-zeros (a .step) (a .first) (a .room) (a .w) (c .if1 .taken)) none
 
-run-length-requires : tie.Need-run-length-requires
-run-length-requires c κs = search needs
-
-cast-lesser : tie.Need-cast-lesser
-cast-lesser c = search needs
-
-lesser-requires : tie.Need-lesser-requires
-lesser-requires c κs = search needs
-
 store-run-requires : tie.Need-store-run-requires
 store-run-requires c κs = let m = c .before in
     let t = m .before .before in
@@ -31,9 +22,6 @@ store-run-requires c κs = let m = c .before in
     let e = word-ones (a .step) (a .first) (a .room) (a .w) (t .before .if1 .left) (t .if2 .taken) in
     let k = length-progression (a .step) (a .first) (min (a .room) (a .w % 16384)) in
     omega (arith, s .pre, m .lesser .ensures, m .before .run-length .ensures, ap length e, k)
-
-same-length : tie.Need-same-length
-same-length c = search needs
 
 returns-2 : tie.Need-returns-2
 returns-2 c = let r = c .before .before in
@@ -44,9 +32,6 @@ returns-2 c = let r = c .before .before in
     rw (word-ones (a .step) (a .first) (a .room) (a .w) (t .before .if1 .left) (t .if2 .taken))
     (rw (← m .before .run-length .ensures, ← m .lesser .ensures) (r .store-run .ensures .0))
 
-lesser-requires-2 : tie.Need-lesser-requires-2
-lesser-requires-2 c κs = search needs
-
 store-vector-requires : tie.Need-store-vector-requires
 store-vector-requires c κs = let t = c .before .before in
     let s = t .before .before .before in
@@ -55,9 +40,6 @@ store-vector-requires c κs = let t = c .before .before in
       omega arith,
       rw (c .lesser2 .ensures, word-vector (a .step) (a .first) (a .room) (a .w) (t .if2 .left)) (s .pre),
     )
-
-same-length-2 : tie.Need-same-length-2
-same-length-2 c = search needs
 
 returns-3 : tie.Need-returns-3
 returns-3 c = let r = c .before .before in
@@ -70,15 +52,5 @@ returns-3 c = let r = c .before .before in
 pub store-word-spec : {M : Type 1} → statement M
 store-word-spec =
     tie.close
-    (tie.spec
-    returns
-    run-length-requires
-    cast-lesser
-    lesser-requires
-    store-run-requires
-    same-length
-    returns-2
-    lesser-requires-2
-    store-vector-requires
-    same-length-2
-    returns-3)
+    (tie.spec returns (λ c κs. search needs) (λ c. search needs) (λ c κs. search needs) store-run-requires
+    (λ c. search needs) returns-2 (λ c κs. search needs) store-vector-requires (λ c. search needs) returns-3)
