@@ -1,6 +1,6 @@
 -- Lists that go by positions, and numbers one step apart. Assumes nothing.
 use Prim.Native.Nat.{ℕ, zero, suc, _+_, min, _≤_, _<_}
-use mathlib.Core.Path.{_≡_, refl, sym, ap, _∙_}
+use mathlib.Core.Path.{_≡_, refl, sym, ap}
 use mathlib.Core.Bool.{Bool, true, false, cond}
 use mathlib.Core.List.{List, [], _∷_, _++_}
 use native.Mathlib.Nat.{add-zero}

@@ -1,13 +1,13 @@
 -- The places of a word from one on are those of another word, `restOf`: what they list. Assumes nothing.
 use Prim.Native.Nat.{ℕ, zero, suc, _+_, _*_, _-_, _/_, _%_, _^_, min, _≤_, _<_}
 use mathlib.Core.Path.{_≡_, refl, sym, ap, _∙_}
-use mathlib.Core.List.{List, _++_}
+use mathlib.Core.List.{_++_}
 use native.Mathlib.Nat.{mul-mod-left}
 use native.Mathlib.Omega.{arith}
 use lib.ListN.{take, drop, replicate}
 use lib.Seq.{drop-at}
 use lib.Dec.{ltb}
-use lib.Pow.{shl-shr, low}
+use lib.Pow.{shl-shr}
 use borrow.Author.Tests.{ltb-true, ltb-false, lt-ltb, le-ltb}
 use Rattle.laws.proofs.Tests.{either}
 use Rattle.utils.proofs.PartLaws.{drop-cut}

@@ -3,7 +3,7 @@
 --     here         what is still to be listed there
 --     turn         the word at hand, and then the rest
 use Prim.Native.Nat.{ℕ, _+_, _*_, _-_, _%_, _^_, _≤_, _<_}
-use mathlib.Core.Path.{_≡_, refl, sym, ap, _∙_}
+use mathlib.Core.Path.{_≡_, refl, sym, ap}
 use mathlib.Core.Bool.{cond}
 use mathlib.Core.List.{List, []}
 use native.Mathlib.Nat.{mod-add-mod, add-mod-mod, mod-eq-of-lt}

@@ -1,6 +1,6 @@
 -- Where a word's first failing one is, by kinds and place by place. Assumes nothing.
-use Prim.Native.Nat.{ℕ, zero, suc, _+_, _*_, _/_, _%_, _^_, _≤_, _<_}
-use mathlib.Core.Path.{_≡_, refl, sym, ap, _∙_}
+use Prim.Native.Nat.{ℕ, zero, suc, _+_, _/_, _%_, _≤_, _<_}
+use mathlib.Core.Path.{_≡_, refl, sym, _∙_}
 use mathlib.Core.Bool.{true, false, cond}
 use native.Mathlib.Omega.{arith}
 use lib.ListN.{length, drop, drop-of-length-le}
@@ -8,7 +8,7 @@ use lib.Seq.{drop-cons}
 use borrow.Author.Tests.{eq-eqb, ne-eqb}
 use Rattle.laws.proofs.Tests.{and-false-r}
 use Rattle.def_standard.specs.Chunks.{coversOf, valueOf, valuesIn}
-use Rattle.def_crate.specs.Sequence.{passes, sequenceOf, movedBy}
+use Rattle.def_crate.specs.Sequence.{passes, sequenceOf}
 use Rattle.chunk.proofs.ChunkLaws.{length-valuesIn, values-at, value-run, covers-lt}
 use Rattle.rle.specs.Stops.{failsAt, stopFrom, stopAt}
 use Rattle.range.specs.Failing.{firstFail, never}

@@ -1,6 +1,6 @@
 -- One word of a list that goes word by word, whatever the reading. Assumes nothing.
 --     words-cons, words-end         the words from an index of the bytes on
---     Turn here added ends rest     here the word's numbers are listed, and then, unless the list ends with it, the rest
+--     Turn here added ends rest     here a word's numbers are listed, and then, unless the list ends with it, the rest
 --     fill-*, count-*               what it adds is stored, or counted
 use Prim.Native.Nat.{ℕ, _+_, _≤_, _<_}
 use mathlib.Core.Path.{_≡_, _∙_}

@@ -15,7 +15,6 @@ use Rattle.def_standard.specs.Chunks.{coversOf}
 use Rattle.def_standard.specs.Range.{numberOf}
 use Rattle.def_standard.specs.Standard.{numbersOf}
 use Rattle.range.specs.Inside.{insideCount}
-use Rattle.range.specs.Steps.{stepOf}
 use Rattle.range.proofs.InsideLaws.{inside-count-le}
 use Rattle.rle.proofs.NumbersLaws.{length-numbers}
 use Rattle.rle.proofs.WordLaws.{length-ones}

@@ -1,11 +1,9 @@
 -- `rle::list::list_runs` meets its contract: its invariant is `Ran`, and needs cite laws of one turn. Assumes nothing.
 use Prim.Native.Nat.{ℕ, _+_, _-_, _%_, _<_}
-use mathlib.Core.Bool.{_&&_}
 use mathlib.Core.Path.{_≡_, sym, ap, _∙_}
 use native.Mathlib.Omega.{arith}
 use borrow.Author.Tests.{not-false}
 use borrow.Author.Needs.{needs}
-use lib.Dec.{ltb, leb}
 use lib.ListN.{length}
 use Rattle.laws.proofs.Stores.{same}
 use Rattle.def_wire.specs.Bytes.{be16}
