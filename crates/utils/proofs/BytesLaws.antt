@@ -1,5 +1,5 @@
 -- The laws of wire's big-endian numbers and words: the one place that unfolds `pairUp`. Assumes nothing.
---     Bytes, be16-lt, ..      bytes below 256 make a number below its limit
+--     Bytes, be16-lt          bytes below 256 make a number below its limit
 --     be16-past, ..           past the end it is 0
 --     Same, be16-same, ..     the same bytes elsewhere (in a part, behind a front) are the same number
 --     be16-two, ..            a number's bytes read back
@@ -24,9 +24,6 @@ Bytes s = (i : ℕ) → getD s i 0 < 256
 
 pub be16-lt : (s : List ℕ) (at : ℕ) → Bytes s → be16 s at < 65536
 be16-lt s at h = omega (arith, h at, h (at + 1))
-
-pub be32-lt : (s : List ℕ) (at : ℕ) → Bytes s → be32 s at < 4294967296
-be32-lt s at h = omega (arith, be16-lt s at h, be16-lt s (at + 2) h)
 
 -- past the end it is 0
 pub byteAt-past : (s : List ℕ) (at : ℕ) → length s ≤ at → byteAt s at ≡ 0

@@ -58,8 +58,8 @@ module _ (c : tie.After-ones-before Inv-loop μ-loop) (g : Range) where
   here-turn : let l = head .loop in let b = entry head .args .bytes .now in l .left ≤ insideCount g
       → Turn (here g b (l .at) (l .left)) numbers (leb (l .left) (coversOf (word head)))
       (here g b (l .at + 2) (l .left - coversOf (word head)))
-  here-turn low = let i = c .before .before .before .before in
-      count-turn g (entry head .args .bytes .now) (head .loop .at) (head .loop .left) low (i .loop-test .taken)
+  here-turn low = let t = c .before .before .before .before .loop-test .taken in
+      count-turn g (entry head .args .bytes .now) (head .loop .at) (head .loop .left) low (omega (arith, t))
 
   more : c .ones-before .result ≡ length numbers
   more = let p = c .before .pair in
@@ -95,7 +95,7 @@ loop-again c = let o = c .before .before in
 returns-2 : tie.Need-returns-2 Inv-loop μ-loop
 returns-2 c = let l = c .before in
     let a = entry l .args in
-    let k = here-end (a .g) (a .bytes .now) (l .loop .at) (l .loop .left) (c .loop-test .left) in
+    let k = here-end (a .g) (a .bytes .now) (l .loop .at) (l .loop .left) (omega (arith, c .loop-test .left)) in
     omega (arith, ap length k, own l .1 .count)
 
 pub count-standard-spec : {M : Type 1} → statement M
