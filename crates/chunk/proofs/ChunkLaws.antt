@@ -1,16 +1,17 @@
--- The laws of a chunk word (standard's Chunks): the one place that unfolds `valuesIn`, `chunkOf` and `wordOf`. Assumes nothing.
+-- The laws of a chunk word (def_standard's Chunks): the one place that unfolds `valuesIn`, `chunkOf` and `wordOf`.
+-- Assumes nothing.
 --     covers-*, value-*       how many positions a word covers, and the value at a place, by its kind
 --     values-*                the values at its places, in order
 --     chunk-*, word-*         its kind, and the word of a kind
-use Prim.Native.Nat.{ℕ, zero, suc, _+_, _-_, _/_, _%_, _^_, _≤_, _<_, min, zero-le}
+use Prim.Native.Nat.{ℕ, zero, suc, _+_, _-_, _/_, _%_, _^_, _≤_, _<_, min}
 use mathlib.Core.Path.{_≡_, refl, ap, _∙_}
 use mathlib.Core.List.{List, [], _∷_, _++_, map}
-use native.Mathlib.Nat.{add-zero, mod-lt, zero-lt-suc}
+use native.Mathlib.Nat.{add-zero}
 use native.Mathlib.Omega.{arith}
-use lib.ListN.{length, getD, take, replicate, length-map, List·getD-eq-default}
+use lib.ListN.{length, getD, take, replicate, length-map}
 use lib.Dec.{ltb}
-use borrow.Author.Tests.{lt-ltb, le-ltb, ltb-true, ltb-false, le-leb, lt-leb, ne-eqb}
-use Rattle.laws.proofs.Tests.{both, either}
+use borrow.Author.Tests.{lt-ltb, le-ltb, le-leb, lt-leb, ne-eqb}
+use Rattle.laws.proofs.Tests.{both}
 use Rattle.def_refusals.specs.declared.Refusal.the-variants.{ValueTooLarge}
 use Rattle.def_standard.specs.declared.Chunk.the-variants.{Null, Skip, Run, Vector}
 use Rattle.def_standard.specs.declared.MadeWord.the-variants.{Word, Unmade}
@@ -34,10 +35,6 @@ module _ (w : ℕ) where
   pub value-vector : (q : ℕ) → 32768 ≤ w → valueOf w q ≡ w / 2 ^ (14 - q) % 2
   value-vector q h = rw (le-ltb w 32768 h)
 
-  -- a value is 0 or 1
-  pub value-le : (q : ℕ) → valueOf w q ≤ 1
-  value-le q = both (λ (n : ℕ). n ≤ 1) (ltb w 32768) (λ _. omega arith) (λ _. omega (arith, mod-lt (w / 2 ^ (14 - q)) (zero-lt-suc 1)))
-
 -- ---- numbers in a row, and what a function gives of them
 
 pub length-countFrom : (q n : ℕ) → length (countFrom q n) ≡ n
@@ -52,7 +49,8 @@ module _ (f : ℕ → ℕ) where
   getD-counted : (q n i : ℕ) → i < n → getD (map f (countFrom q n)) i 0 ≡ f (q + i)
   getD-counted q zero i h = absurd (omega arith)
   getD-counted q (suc n) zero h = rw (add-zero q)
-  getD-counted q (suc n) (suc i) h = let e : q + suc i ≡ suc q + i = omega arith in rw e (getD-counted (suc q) n i (omega arith))
+  getD-counted q (suc n) (suc i) h =
+      let e : q + suc i ≡ suc q + i = omega arith in rw e (getD-counted (suc q) n i (omega arith))
 
   take-counted : (r q n : ℕ) → take r (map f (countFrom q n)) ≡ map f (countFrom q (min r n))
   take-counted zero q n = let e : min 0 n ≡ 0 = omega arith in rw e
@@ -67,7 +65,8 @@ module _ (f : ℕ → ℕ) where
 
   pub counted-snoc : (q n : ℕ) → map f (countFrom q (suc n)) ≡ map f (countFrom q n) ++ (f (q + n) ∷ [])
   counted-snoc q zero = rw (add-zero q)
-  counted-snoc q (suc n) = let e : q + suc n ≡ suc q + n = omega arith in rw e (ap (λ (l : List ℕ). f q ∷ l) (counted-snoc (suc q) n))
+  counted-snoc q (suc n) =
+      let e : q + suc n ≡ suc q + n = omega arith in rw e (ap (λ (l : List ℕ). f q ∷ l) (counted-snoc (suc q) n))
 
 -- ---- a word's values
 
@@ -95,14 +94,11 @@ module _ (w : ℕ) where
       values-take r
       ∙ (rw (covers-run w h) (same-counted (valueOf w) (w / 16384 % 2) 0 (min r (w % 16384)) (λ i. value-run w i h)))
 
-  pub values-take-vector : (r : ℕ) → 32768 ≤ w → take r (valuesIn w) ≡ map (λ (q : ℕ). w / 2 ^ (14 - q) % 2) (countFrom 0 (min r 15))
-  values-take-vector r h = values-take r ∙ (rw (covers-vector w h) (map-same (valueOf w) (λ (q : ℕ). w / 2 ^ (14 - q) % 2) (λ q. value-vector w q h) (countFrom 0 (min r 15))))
-
-  -- each is 0 or 1
-  pub values-le : (q : ℕ) → getD (valuesIn w) q 0 ≤ 1
-  values-le q =
-      either (ltb q (coversOf w)) (λ e. rw (values-at q (ltb-true _ _ e)) (value-le w q))
-      (λ e. let h : length (valuesIn w) ≤ q = rw length-valuesIn (ltb-false _ _ e) in rw (List·getD-eq-default (valuesIn w) 0 h) zero-le)
+  pub values-take-vector : (r : ℕ) → 32768 ≤ w
+      → take r (valuesIn w) ≡ map (λ (q : ℕ). w / 2 ^ (14 - q) % 2) (countFrom 0 (min r 15))
+  values-take-vector r h =
+      let same = map-same (valueOf w) (λ (q : ℕ). w / 2 ^ (14 - q) % 2) (λ q. value-vector w q h) in
+      values-take r ∙ (rw (covers-vector w h) (same (countFrom 0 (min r 15))))
 
 -- ---- a word's kind
 

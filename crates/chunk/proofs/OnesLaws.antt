@@ -1,4 +1,5 @@
--- Counts of the places of value one among a word's first places: the one place that unfolds `onesBefore`. Assumes nothing.
+-- Counts of the places of value one among a word's first places: the one place that unfolds `onesBefore`. Assumes
+-- nothing.
 use Prim.Native.Nat.{ℕ, zero, suc, _+_, _-_, _/_, _%_, _^_, _≤_, _<_, min}
 use mathlib.Core.Path.{_≡_, refl, sym, ap, _∙_}
 use mathlib.Core.Bool.{Bool, true, false, cond}
@@ -14,13 +15,16 @@ use Rattle.chunk.specs.Ones.{onesBefore}
 use Rattle.chunk.proofs.ChunkLaws.{counted-snoc, values-take-run, values-take-vector}
 
 -- how many of a list of values are one; where their places begin does not matter
+abbrev onesFrom : ℕ → List ℕ → List ℕ
+onesFrom p vs = listFrom (λ q value. eqb value 1) (λ q value. q) p vs
+
 abbrev onesOf : ℕ → List ℕ → ℕ
-onesOf p vs = length (listFrom (λ q value. eqb value 1) (λ q value. q) p vs)
+onesOf p vs = length (onesFrom p vs)
 
 onesOf-cons : (p v : ℕ) (vs : List ℕ) → onesOf p (v ∷ vs) ≡ cond (eqb v 1) 1 0 + onesOf (suc p) vs
 onesOf-cons p v vs = go (eqb v 1)
   where
-    go : (b : Bool) → length (cond b (p ∷ listFrom (λ q value. eqb value 1) (λ q value. q) (suc p) vs) (listFrom (λ q value. eqb value 1) (λ q value. q) (suc p) vs)) ≡ cond b 1 0 + onesOf (suc p) vs
+    go : (b : Bool) → length (cond b (p ∷ onesFrom (suc p) vs) (onesFrom (suc p) vs)) ≡ cond b 1 0 + onesOf (suc p) vs
     go true = omega arith
     go false = omega arith
 
@@ -28,7 +32,8 @@ onesOf-snoc : (p : ℕ) (vs : List ℕ) (v : ℕ) → v ≤ 1 → onesOf p (vs +
 onesOf-snoc p [] zero h = refl
 onesOf-snoc p [] (suc zero) h = refl
 onesOf-snoc p [] (suc (suc v)) h = absurd (omega arith)
-onesOf-snoc p (x ∷ vs) v h = omega (arith, onesOf-cons p x (vs ++ (v ∷ [])), onesOf-cons p x vs, onesOf-snoc (suc p) vs v h)
+onesOf-snoc p (x ∷ vs) v h =
+    omega (arith, onesOf-cons p x (vs ++ (v ∷ [])), onesOf-cons p x vs, onesOf-snoc (suc p) vs v h)
 
 onesOf-zeros : (p n : ℕ) → onesOf p (replicate n 0) ≡ 0
 onesOf-zeros p zero = refl
@@ -58,15 +63,17 @@ ones-none : ones 0 ≡ 0
 unfolding ones
 ones-none = refl
 
-onesOf-vector : (w k : ℕ) → k ≤ 15 → onesOf 0 (map (λ (q : ℕ). w / 2 ^ (14 - q) % 2) (countFrom 0 k)) ≡ ones (firstBits w k)
+onesOf-vector : (w k : ℕ) → k ≤ 15
+    → onesOf 0 (map (λ (q : ℕ). w / 2 ^ (14 - q) % 2) (countFrom 0 k)) ≡ ones (firstBits w k)
 onesOf-vector w zero h = let e : w % 32768 / 32768 ≡ 0 = omega arith in sym (ap ones e ∙ ones-none)
 onesOf-vector w (suc k) h =
     let f : ℕ → ℕ = λ (q : ℕ). w / 2 ^ (14 - q) % 2 in
     let z : 0 + k ≡ k = omega arith in
+    let rest = ap ones (firstBits-rest w k (omega arith)) in
+    let last = firstBits-last w k (omega arith) in
     ap (onesOf 0) (counted-snoc f 0 k)
     ∙ onesOf-snoc 0 (map f (countFrom 0 k)) (f (0 + k)) (omega arith)
-    ∙ omega
-    (arith, onesOf-vector w k (omega arith), ones-step (firstBits w (suc k)), ap ones (firstBits-rest w k (omega arith)), firstBits-last w k (omega arith), ap f z)
+    ∙ omega (arith, onesOf-vector w k (omega arith), ones-step (firstBits w (suc k)), rest, last, ap f z)
 
 -- ---- a word's first places
 

@@ -1,7 +1,5 @@
 // The standard number cursor (document 01, "Views, cursors and the dump"): a call takes a budget of steps from a place of a block's words, lists
 // that stretch's numbers, and reports how many steps it took and where the next call goes on.
-mod store;
-
 ghost use mathlib.Core.Path.{_≡_};
 ghost use mathlib.Core.Bool.{true};
 ghost use Prim.Native.Nat.{_+_, _-_, _≤_, _<_, min};
@@ -109,7 +107,7 @@ fn go(bytes: &[u8], g: Range, c: Cursor, budget: usize, out: &mut [u16]) -> Stre
             utils::above(inside, at.position),
         );
         let first = range::number_at(g, at.position);
-        n = store::store_places(out, n, w, at.place, room, first, step);
+        n = rle::put_places(out, n, w, at.place, room, first, step);
         if left < takes {
             return Stretch {
                 next: moved(w, left, at),

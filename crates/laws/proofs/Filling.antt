@@ -1,68 +1,82 @@
--- A slice that is being filled from the front with a list. Any element type serves.
---     Filling whole out₀ out rest n     the first n of out are the first n of whole, whose rest is still to come; from n on out is as it was
-use Prim.Native.Nat.{ℕ, suc, _+_, _≤_, _<_}
+-- A list on its way into a slice, stored one by one or several at once, or only counted.
+--     Storing l₀ at whole l rest n     to store rest in l from n on comes to storing the whole in l₀ from at on
+--     Filling whole l₀ l rest n        the same from the front on
+--     Counting whole rest n            n of the whole are counted, and the rest is still to come
+use Prim.Native.Nat.{ℕ, _+_, _≤_, _<_}
 use mathlib.Core.Path.{_≡_, refl, sym, ap, _∙_}
-use mathlib.Core.List.{List, [], _∷_, _++_, append-nil, append-assoc}
-use native.Mathlib.Nat.{add-zero}
-use native.Mathlib.Numerals.{add-one}
+use mathlib.Core.List.{List, [], _∷_, _++_}
 use native.Mathlib.Omega.{arith}
-use lib.ListN.{length, take, drop, set, length-set, length-append, take-append-drop}
-use lib.Seq.{take-suc-set, drop-set-lt, drop-drop, sets}
+use lib.ListN.{length, set, length-append}
+use lib.Seq.{sets}
+use Rattle.laws.specs.Stores.{Wrote, Filled}
+use Rattle.laws.proofs.Stores.{sets-append, same, filled}
 
-pub record Filling {A : Type 0} (whole out₀ out rest : List A) (n : ℕ) : Type 0 where
-  pub split : take n out ++ rest ≡ whole
-  pub kept : drop n out ≡ drop n out₀
-  pub same : length out ≡ length out₀
-  pub count : n + length rest ≡ length whole
-  pub room : length whole ≤ length out₀
+pub record Storing (l₀ : List ℕ) (at : ℕ) (whole l rest : List ℕ) (n : ℕ) : Type 0 where
+  pub stored : sets l n rest ≡ sets l₀ at whole
+  pub count : n + length rest ≡ at + length whole
+  pub same : length l ≡ length l₀
+  pub room : at + length whole ≤ length l₀
 
-module _ {A : Type 0} {whole out₀ : List A} where
-  pub start : length whole ≤ length out₀ → Filling whole out₀ out₀ whole 0
-  start h = record { split = refl; kept = refl; same = refl; count = omega arith; room = h }
+abbrev pub Filling : List ℕ → List ℕ → List ℕ → List ℕ → ℕ → Type 0
+Filling whole l₀ l rest n = Storing l₀ 0 whole l rest n
+
+module _ {l₀ : List ℕ} {at : ℕ} {whole : List ℕ} where
+  pub start : at + length whole ≤ length l₀ → Storing l₀ at whole l₀ whole at
+  start h = record { stored = refl; count = refl; same = refl; room = h }
 
   -- what is still to come, said otherwise
-  pub skip : {out rest rest′ : List A} {n : ℕ} → rest ≡ rest′ → Filling whole out₀ out rest n → Filling whole out₀ out rest′ n
+  pub skip : {l rest rest′ : List ℕ} {n : ℕ} → rest ≡ rest′ → Storing l₀ at whole l rest n
+      → Storing l₀ at whole l rest′ n
   skip e f = rw (← e) f
 
-  -- there is room for one more
-  pub within : {out rest rest′ : List A} {n : ℕ} {x : A} → rest ≡ x ∷ rest′ → Filling whole out₀ out rest n → n < length out
-  within e f = omega (arith, ap length e)
+  -- the same for a slice and an index that are known by equations, as where the arms of a branch have met
+  pub moved : {l l′ rest : List ℕ} {n n′ : ℕ} → l′ ≡ l → n′ ≡ n → Storing l₀ at whole l rest n
+      → Storing l₀ at whole l′ rest n′
+  moved e k f = rw (e, k) f
 
   -- there is room for as many as come next
-  pub room-for : (xs rest′ : List A) {out rest : List A} {n : ℕ} → rest ≡ xs ++ rest′ → Filling whole out₀ out rest n → n + length xs ≤ length out
-  room-for xs rest′ {out} {rest} {n} e f = omega (arith, ap length e ∙ length-append xs rest′, f .count, f .room, f .same)
+  pub room-for : (xs rest′ : List ℕ) {l rest : List ℕ} {n : ℕ} → rest ≡ xs ++ rest′ → Storing l₀ at whole l rest n
+      → n + length xs ≤ length l
+  room-for xs rest′ e f = omega (arith, ap length e ∙ length-append xs rest′, f .count, f .room, f .same)
 
-  -- the next one is stored
-  pub put : {out rest rest′ : List A} {n : ℕ} {x : A} → rest ≡ x ∷ rest′ → Filling whole out₀ out rest n
-      → Filling whole out₀ (set out n x) rest′ (n + 1)
-  put {out} {rest} {rest′} {n} {x} e f =
-      let h : n < length out = within e f in
+  -- the next ones were stored
+  pub wrote : {l l′ xs rest rest′ : List ℕ} {n n′ : ℕ} → rest ≡ xs ++ rest′ → Wrote l n xs l′ n′
+      → Storing l₀ at whole l rest n → Storing l₀ at whole l′ rest′ n′
+  wrote {l} {l′} {xs} {rest} {rest′} {n} {n′} e w f =
       record {
-        split = rw (add-one, take-suc-set, append-assoc) (ap (λ (r : List A). take n out ++ r) (sym e) ∙ f .split);
-        kept =
-            rw add-one
-            (drop-set-lt (suc n) out n x (omega arith) ∙ (rw (← add-one) (sym (drop-drop 1 n out) ∙ ap (drop 1) (f .kept) ∙ drop-drop 1 n out₀)));
-        same = length-set out n x ∙ f .same;
-        count = omega (arith, ap length e, f .count);
+        stored = rw (w .stored) (sets-append xs rest′ l n n′ (w .past) ∙ ap (sets l n) (sym e) ∙ f .stored);
+        count = omega (arith, ap length e ∙ length-append xs rest′, w .past, f .count);
+        same = same w ∙ f .same;
         room = f .room;
       }
 
-  -- the same for a slice and a count that are known by equations, as where the arms of a branch have met
-  pub moved : {out out′ rest : List A} {n n′ : ℕ} → out′ ≡ out → n′ ≡ n → Filling whole out₀ out rest n → Filling whole out₀ out′ rest n′
-  moved e k f = rw (e, k) f
+  -- one was, and there was room for it
+  module _ {l rest rest′ : List ℕ} {n x : ℕ} (e : rest ≡ x ∷ rest′) (f : Storing l₀ at whole l rest n) where
+    pub within : n < length l
+    within = omega (arith, ap length e)
 
-  -- the next ones are stored in a run
-  pub puts : (xs rest′ : List A) {out rest : List A} {n : ℕ} → rest ≡ xs ++ rest′ → Filling whole out₀ out rest n
-      → Filling whole out₀ (sets out n xs) rest′ (n + length xs)
-  puts [] rest′ {out} {rest} {n} e f = moved refl (add-zero n) (skip e f)
-  puts (x ∷ xs) rest′ {out} {rest} {n} e f =
-      let g : Filling whole out₀ (set out n x) (xs ++ rest′) (suc n) = moved refl (sym (add-one n)) (put e f) in
-      moved refl (let k : n + suc (length xs) ≡ suc n + length xs = omega arith in k) (puts xs rest′ refl g)
+    pub put : Storing l₀ at whole (set l n x) rest′ (n + 1)
+    put = wrote {xs = x ∷ []} e (record { stored = refl; past = refl }) f
 
   -- nothing is to come
-  pub done : {out rest : List A} {n : ℕ} → rest ≡ [] → Filling whole out₀ out rest n
-      → (n ≡ length whole) × (out ≡ whole ++ drop (length whole) out₀)
-  done {out} {rest} {n} e f =
-      let k : n ≡ length whole = omega (arith, ap length e, f .count) in
-      let t : take n out ≡ whole = sym (append-nil (take n out)) ∙ ap (λ (r : List A). take n out ++ r) (sym e) ∙ f .split in
-      (k, sym (take-append-drop n out) ∙ (rw (t, f .kept, k)))
+  pub ended : {l rest : List ℕ} {n : ℕ} → rest ≡ [] → Storing l₀ at whole l rest n → Wrote l₀ at whole l n
+  ended {l} {rest} {n} e f =
+      record { stored = ap (sets l n) (sym e) ∙ f .stored; past = omega (arith, ap length e, f .count) }
+
+module _ {whole l₀ : List ℕ} where
+  pub done : {l rest : List ℕ} {n : ℕ} → rest ≡ [] → Filling whole l₀ l rest n → Filled whole l₀ n l
+  done e f = filled (omega (arith, f .room)) (ended e f)
+
+  -- the last ones were stored
+  pub wrote-last : {l l′ xs rest : List ℕ} {n n′ : ℕ} → rest ≡ xs ++ [] → Wrote l n xs l′ n′
+      → Filling whole l₀ l rest n → Filled whole l₀ n′ l′
+  wrote-last e w f = done refl (wrote e w f)
+
+pub record Counting (whole rest : List ℕ) (n : ℕ) : Type 0 where
+  pub count : n + length rest ≡ length whole
+
+-- the next ones were counted
+pub counted : {whole rest rest′ : List ℕ} {n more : ℕ} (xs : List ℕ) → rest ≡ xs ++ rest′ → more ≡ length xs
+    → Counting whole rest n → Counting whole rest′ (n + more)
+counted {rest′ = rest′} xs e m f =
+    record { count = omega (arith, ap length e ∙ length-append xs rest′, m, f .count) }

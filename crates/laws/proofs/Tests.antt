@@ -11,7 +11,8 @@ test true = inl refl
 test false = inr refl
 
 -- a choice that is known to give z
-pub by-test : {A P : Type 0} (b : Bool) {x y z : A} → (b ≡ true → x ≡ z → P) → (b ≡ false → y ≡ z → P) → cond b x y ≡ z → P
+pub by-test : {A P : Type 0} (b : Bool) {x y z : A} → (b ≡ true → x ≡ z → P) → (b ≡ false → y ≡ z → P)
+    → cond b x y ≡ z → P
 by-test true f g e = f refl e
 by-test false f g e = g refl e
 

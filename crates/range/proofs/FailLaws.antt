@@ -6,7 +6,7 @@
 use Prim.Native.Nat.{ℕ, _+_, _*_, _-_, _%_, _^_, _≤_, _<_}
 use mathlib.Core.Path.{_≡_, refl, ap, _∙_}
 use mathlib.Core.Bool.{true, false}
-use native.Mathlib.Nat.{mod-eq-of-lt, mod-lt, mul-le-mul-right, mul-le-mul-left, mul-mod-left, mul-assoc, add-zero}
+use native.Mathlib.Nat.{mod-eq-of-lt, mod-lt, mul-le-mul-right, mul-mod-left, mul-assoc, add-zero}
 use native.Mathlib.Omega.{arith}
 use lib.Dec.{ltb, leb, lit<}
 use lib.Pow.{pow-pos, pow-mono, pow-add, mod-pow-add, shl-shr, shl-exact}
@@ -15,7 +15,7 @@ use Rattle.laws.proofs.Tests.{either}
 use Rattle.def_crate.specs.Sequence.{passes, sequenceOf, doubledOf}
 use Rattle.range.specs.Inside.{ceilDiv}
 use Rattle.range.specs.Failing.{gapOf, againOf, never, firstFail}
-use Rattle.range.proofs.InsideLaws.{ceil-test, ceil-le, ceil-below, ceil-above}
+use Rattle.range.proofs.InsideLaws.{ceil-near, ceil-far, ceil-le, ceil-below, ceil-above}
 
 module _ (start end : ℕ) (s : start < 65536) (e : end < 65536) where
   -- end lies at most a whole circle beyond the start
@@ -43,7 +43,8 @@ module _ (start end : ℕ) (s : start < 65536) (e : end < 65536) where
       let n : (d + start) % 65536 < end = omega arith in rw (f, lt-ltb _ _ n))
 
   -- from end on
-  pub passes-between : (d : ℕ) → gapOf start end ≤ d → d < againOf start end → passes start end ((d + start) % 65536) ≡ false
+  pub passes-between : (d : ℕ) → gapOf start end ≤ d → d < againOf start end
+      → passes start end ((d + start) % 65536) ≡ false
   unfolding passes
   passes-between d h a =
       either (leb end start)
@@ -95,7 +96,7 @@ module _ (start end t : ℕ) (s : start < 65536) (e : end < 65536) where
   -- a place nearer than end
   near : (q : ℕ) → q < first → passes start end (sequenceOf q start t) ≡ true
   near q h =
-      let k : q * 2 ^ t < gap = ltb-true _ _ (ceil-test gap (2 ^ t) (pow-pos t) q ∙ lt-ltb _ _ h) in
+      let k : q * 2 ^ t < gap = ceil-near gap (2 ^ t) (pow-pos t) q h in
       let l : q * 2 ^ t < 65536 = omega (arith, gap-high start end s e) in
       rw (mod-eq-of-lt l) (passes-near start end s e (q * 2 ^ t) k)
 
@@ -106,9 +107,10 @@ module _ (start end t : ℕ) (s : start < 65536) (e : end < 65536) where
       (λ u. passes-near start end s e (doubledOf q t) (ltb-true _ _ u))
       (λ v. let far : gap ≤ doubledOf q t = ltb-false _ _ v in
       either (leb t 16)
-      (λ x. let m : doubledOf q t ≡ q % 2 ^ (16 - t) * 2 ^ t = doubled-multiple q t (leb-true _ _ x) in
-      let c : first ≤ q % 2 ^ (16 - t) = ceil-above gap (2 ^ t) (pow-pos t) (q % 2 ^ (16 - t)) (omega (arith, m, far)) in
-      let l : first * 2 ^ t ≤ q % 2 ^ (16 - t) * 2 ^ t = mul-le-mul-right (2 ^ t) c in
+      (λ x. let p = q % 2 ^ (16 - t) in
+      let m : doubledOf q t ≡ p * 2 ^ t = doubled-multiple q t (leb-true _ _ x) in
+      let c : first ≤ p = ceil-above gap (2 ^ t) (pow-pos t) p (omega (arith, m, far)) in
+      let l : first * 2 ^ t ≤ p * 2 ^ t = mul-le-mul-right (2 ^ t) c in
       passes-again start end s e (doubledOf q t) (mod-lt (q * 2 ^ t) (lit< tt)) (omega (arith, m, l, a)))
       (λ y. let b : 16 < t = leb-false _ _ y in
       let z : doubledOf q t ≡ 0 = doubled-nowhere q t (omega arith) in
@@ -122,24 +124,15 @@ module _ (start end t : ℕ) (s : start < 65536) (e : end < 65536) where
       (λ u. rw u (near q))
       (λ v. λ _. none (ltb-false _ _ v) q)
 
-  -- and it is small
-  pub first-le : (firstFail start end t ≡ never → ⊥) → firstFail start end t < 65536
-  unfolding firstFail
-  first-le =
-      either (ltb (first * 2 ^ t) (againOf start end))
-      (λ u. rw u (λ _. let k : first * 2 ^ t < againOf start end = ltb-true _ _ u in
-      let l : first * 1 ≤ first * 2 ^ t = mul-le-mul-left first (pow-pos t) in
-      omega (arith, again-high start end s e)))
-      (λ v. rw v (λ n. absurd (n refl)))
-
   -- `firstFail` itself fails, unless it is `never`
-  pub at-first : (firstFail start end t ≡ never → ⊥) → passes start end (sequenceOf (firstFail start end t) start t) ≡ false
+  pub at-first : (firstFail start end t ≡ never → ⊥)
+      → passes start end (sequenceOf (firstFail start end t) start t) ≡ false
   unfolding firstFail
   at-first =
       either (ltb (first * 2 ^ t) (againOf start end))
       (λ u. rw u (λ _. let k : first * 2 ^ t < againOf start end = ltb-true _ _ u in
       let l : first * 2 ^ t < 65536 = omega (arith, again-high start end s e) in
-      let g : gap ≤ first * 2 ^ t = ltb-false _ _ (ceil-test gap (2 ^ t) (pow-pos t) first ∙ le-ltb _ _ (let r : first ≤ first = omega arith in r)) in
+      let g : gap ≤ first * 2 ^ t = ceil-far gap (2 ^ t) (pow-pos t) first (omega arith) in
       rw (mod-eq-of-lt l) (passes-between start end s e (first * 2 ^ t) g k)))
       (λ v. rw v (λ n. absurd (n refl)))
 
@@ -164,11 +157,12 @@ module _ (start end t : ℕ) (s : start < 65536) (e : end < 65536) where
   pub first-nowhere : 16 ≤ t → never ≡ firstFail start end t
   first-nowhere h =
       let p : 2 ^ 16 ≤ 2 ^ t = pow-mono h in
-      let one : 0 < first = ceil-below gap (2 ^ t) (pow-pos t) 0 (let k : 0 * 2 ^ t < gap = omega (arith, gap-low start end s e) in k) in
+      let one : 0 < first = ceil-below gap (2 ^ t) (pow-pos t) 0 (omega (arith, gap-low start end s e)) in
       let l : 1 * 2 ^ t ≤ first * 2 ^ t = mul-le-mul-right (2 ^ t) one in
       first-never (omega (arith, again-high start end s e, l, p))
 
   -- it is at most a circle's worth of steps, so its distance does not wrap
   pub first-fits : t < 16 → first * 2 ^ t % 2 ^ 64 ≡ first * 2 ^ t
   first-fits h =
-      shl-exact 17 t 64 (let k : first < 2 ^ 17 = omega (arith, ceil-le gap (2 ^ t) (pow-pos t), gap-high start end s e) in k) (omega arith)
+      let k : first < 2 ^ 17 = omega (arith, ceil-le gap (2 ^ t) (pow-pos t), gap-high start end s e) in
+      shl-exact 17 t 64 k (omega arith)

@@ -35,6 +35,12 @@ module _ (a m : ℕ) (h : 0 < m) where
       (λ t. t ∙ sym (lt-ltb _ _ (ceil-below p (ltb-true _ _ t))))
       (λ f. f ∙ sym (le-ltb _ _ (ceil-above p (ltb-false _ _ f))))
 
+  pub ceil-near : (p : ℕ) → p < ceilDiv a m → p * m < a
+  ceil-near p k = ltb-true _ _ (ceil-test p ∙ lt-ltb _ _ k)
+
+  pub ceil-far : (p : ℕ) → ceilDiv a m ≤ p → a ≤ p * m
+  ceil-far p k = ltb-false _ _ (ceil-test p ∙ le-ltb _ _ k)
+
   pub ceil-le : ceilDiv a m ≤ a
   ceil-le = ceil-above a (let k : a * 1 ≤ a * m = mul-le-mul-left a h in omega arith)
 

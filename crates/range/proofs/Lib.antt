@@ -1,5 +1,5 @@
--- SequenceLaws (doublings and the crate's test), InsideLaws (which positions are inside), FailLaws (where the crate's test fails), NextLaws (the same
--- after the start has moved on).
+-- SequenceLaws (doublings and the crate's test), InsideLaws (which positions are inside), FailLaws (where the crate's
+-- test fails), NextLaws (the same after the start has moved on).
 pub mod SequenceLaws
 pub mod InsideLaws
 pub mod FailLaws

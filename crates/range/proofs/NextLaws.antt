@@ -13,7 +13,7 @@ use Rattle.laws.proofs.Tests.{either, true≢false}
 use Rattle.def_crate.specs.Sequence.{passes, sequenceOf, movedBy}
 use Rattle.range.specs.Inside.{ceilDiv}
 use Rattle.range.specs.Failing.{gapOf, againOf, never, firstFail}
-use Rattle.range.proofs.InsideLaws.{ceil-below, ceil-above, ceil-test}
+use Rattle.range.proofs.InsideLaws.{ceil-below, ceil-above, ceil-near, ceil-far}
 use Rattle.range.proofs.FailLaws.{gap-high, never-fails, at-first, first-is, first-never}
 use Rattle.range.proofs.SequenceLaws.{moved-sequence}
 
@@ -23,10 +23,12 @@ sub-mul a b m = mul-comm (a - b) m ∙ mul-sub m a b ∙ (rw (mul-comm m a, mul-
 -- places from a moved start are later places from the start
 later : (q n t start : ℕ) → sequenceOf q (movedBy n t start) t ≡ sequenceOf (n + q) start t
 later q n t start = let m = 2 ^ t in
-    rw (mod-add-mod (q * m) 65536 ((start + n * m % 65536) % 65536), add-mod-mod (q * m) (start + n * m % 65536) 65536, mod-add-mod ((n + q) * m) 65536 start)
-    (ap (λ (x : ℕ). x % 65536) (let e : q * m + (start + n * m % 65536) ≡ q * m + start + n * m % 65536 = omega arith in e)
-    ∙ add-mod-mod (q * m + start) (n * m) 65536
-    ∙ ap (λ (x : ℕ). x % 65536) (let e : q * m + start + n * m ≡ (n + q) * m + start = omega arith in e))
+    let moved = start + n * m % 65536 in
+    let a : q * m + moved ≡ q * m + start + n * m % 65536 = omega arith in
+    let b : q * m + start + n * m ≡ (n + q) * m + start = omega arith in
+    let c = mod-add-mod ((n + q) * m) 65536 start in
+    rw (mod-add-mod (q * m) 65536 (moved % 65536), add-mod-mod (q * m) moved 65536, c)
+    (ap (λ (x : ℕ). x % 65536) a ∙ add-mod-mod (q * m + start) (n * m) 65536 ∙ ap (λ (x : ℕ). x % 65536) b)
 
 -- how far end is, by cases
 gap-up : (start end : ℕ) → start < end → end < 65536 → gapOf start end ≡ end - start
@@ -39,10 +41,13 @@ gap-down start end h e = omega arith
 module _ (start end x : ℕ) (s : start < 65536) (e : end < 65536) (near : x < gapOf start end) where
   -- it does not reach end from below
   moved-up : start < end → (start + x < end) × ((start + x) % 65536 ≡ start + x)
-  moved-up h = let k : start + x < end = omega (arith, gap-up start end h e) in (k, mod-eq-of-lt (let l : start + x < 65536 = omega arith in l))
+  moved-up h =
+      let k : start + x < end = omega (arith, gap-up start end h e) in
+      (k, mod-eq-of-lt (let l : start + x < 65536 = omega arith in l))
 
   -- from above it stays above, or wraps and stays below
-  moved-wrapped : end ≤ start → 65536 ≤ start + x → ((start + x) % 65536 ≡ start + x - 65536) × (start + x - 65536 < end)
+  moved-wrapped : end ≤ start → 65536 ≤ start + x
+      → ((start + x) % 65536 ≡ start + x - 65536) × (start + x - 65536 < end)
   moved-wrapped h w =
       let k : start + x - 65536 < end = omega (arith, gap-down start end h s) in
       (mod-eq-sub-mod w ∙ mod-eq-of-lt (let l : start + x - 65536 < 65536 = omega arith in l), k)
@@ -56,7 +61,7 @@ module _ (start end x : ℕ) (s : start < 65536) (e : end < 65536) (near : x < g
       (λ b. let u : end ≤ start = ltb-false _ _ b in
       either (ltb (start + x) 65536)
       (λ y. let v : start + x < 65536 = ltb-true _ _ y in
-      rw (mod-eq-of-lt v, gap-down (start + x) end (let z : end ≤ start + x = omega arith in z) v, gap-down start end u s) (omega arith))
+      rw (mod-eq-of-lt v, gap-down (start + x) end (omega arith) v, gap-down start end u s) (omega arith))
       (λ z. let v : 65536 ≤ start + x = ltb-false _ _ z in
       let m = moved-wrapped u v in
       rw (m .0, gap-up (start + x - 65536) end (m .1) e, gap-down start end u s) (omega arith)))
@@ -100,14 +105,15 @@ module _ (start end t n : ℕ) (s : start < 65536) (e : end < 65536) where
       let low : moved < end = rw (moved-sequence n t start) (moved-below h f n) in
       either (eqb (firstFail moved end t) never) (λ y. eqb-true _ _ y)
       (λ z. let some : firstFail moved end t ≡ never → ⊥ = eqb-false _ _ z in
-      let bad : passes moved end (sequenceOf (firstFail moved end t) moved t) ≡ false = at-first moved end t moved-lt e some in
-      let good : passes moved end (sequenceOf (firstFail moved end t) moved t) ≡ true =
-      rw (lt-leb _ _ low, later (firstFail moved end t) n t start) (lt-ltb _ _ (moved-below h f (n + firstFail moved end t))) in
+      let q = firstFail moved end t in
+      let bad : passes moved end (sequenceOf q moved t) ≡ false = at-first moved end t moved-lt e some in
+      let good : passes moved end (sequenceOf q moved t) ≡ true =
+      rw (lt-leb _ _ low, later q n t start) (lt-ltb _ _ (moved-below h f (n + q))) in
       true≢false (sym bad ∙ good))
 
   -- not moved at all
   pub next-same : n ≡ 0 → moved ≡ start
-  next-same z = rw z (ap (λ (x : ℕ). x % 65536) (let k : start + 0 * 2 ^ t % 65536 ≡ start = omega arith in k) ∙ mod-eq-of-lt s)
+  next-same z = let k : start + 0 * 2 ^ t % 65536 ≡ start = omega arith in rw (z, k) (mod-eq-of-lt s)
 
   abbrev gap : ℕ
   gap = gapOf start end
@@ -123,10 +129,12 @@ module _ (start end t n : ℕ) (s : start < 65536) (e : end < 65536) where
 
   module _ (h : n < first) (a : first * 2 ^ t < againOf start end) where
     near : n * 2 ^ t < gap
-    near = ltb-true _ _ (ceil-test gap (2 ^ t) (pow-pos t) n ∙ lt-ltb _ _ h)
+    near = ceil-near gap (2 ^ t) (pow-pos t) n h
 
     moved-is : moved ≡ (start + n * 2 ^ t) % 65536
-    moved-is = ap (λ (x : ℕ). (start + x) % 65536) (mod-eq-of-lt (let k : n * 2 ^ t < 65536 = omega (arith, near, gap-high start end s e) in k))
+    moved-is =
+        let k : n * 2 ^ t < 65536 = omega (arith, near, gap-high start end s e) in
+        ap (λ (x : ℕ). (start + x) % 65536) (mod-eq-of-lt k)
 
     -- end is nearer
     gap-less : gapOf moved end ≡ gap - n * 2 ^ t
@@ -137,12 +145,14 @@ module _ (start end t n : ℕ) (s : start < 65536) (e : end < 65536) where
 
     first-less : ceilDiv (gapOf moved end) (2 ^ t) ≡ first - n
     first-less =
-        let far : gap ≤ first * 2 ^ t = ltb-false _ _ (ceil-test gap (2 ^ t) (pow-pos t) first ∙ le-ltb _ _ (let r : first ≤ first = omega arith in r)) in
-        let last : (first - 1) * 2 ^ t < gap = ltb-true _ _ (ceil-test gap (2 ^ t) (pow-pos t) (first - 1) ∙ lt-ltb _ _ (let r : first - 1 < first = omega arith in r)) in
-        let up : ceilDiv (gapOf moved end) (2 ^ t) ≤ first - n = ceil-above (gapOf moved end) (2 ^ t) (pow-pos t) (first - n) (omega (arith, gap-less, less, far)) in
-        let step : (first - 1 - n) * 2 ^ t ≡ (first - 1) * 2 ^ t - n * 2 ^ t = sub-mul (first - 1) n (2 ^ t) in
-        let down : first - 1 - n < ceilDiv (gapOf moved end) (2 ^ t) = ceil-below (gapOf moved end) (2 ^ t) (pow-pos t) (first - 1 - n) (omega (arith, gap-less, step, last, near)) in
-        omega arith
+        let m = 2 ^ t in
+        let g = gapOf moved end in
+        let far : gap ≤ first * m = ceil-far gap m (pow-pos t) first (omega arith) in
+        let last : (first - 1) * m < gap = ceil-near gap m (pow-pos t) (first - 1) (omega arith) in
+        let up = ceil-above g m (pow-pos t) (first - n) (omega (arith, gap-less, less, far)) in
+        let step : (first - 1 - n) * m ≡ (first - 1) * m - n * m = sub-mul (first - 1) n m in
+        let down = ceil-below g m (pow-pos t) (first - 1 - n) (omega (arith, gap-less, step, last, near)) in
+        omega (arith, up, down)
 
     -- numbers pass again no sooner
     again-less : (first - n) * 2 ^ t < againOf moved end
@@ -152,7 +162,8 @@ module _ (start end t n : ℕ) (s : start < 65536) (e : end < 65536) where
     nearer = sym first-less ∙ first-is moved end t moved-lt e (rw first-less again-less)
 
   -- it is that many places nearer, as long as it lies beyond them
-  pub next-less : n < firstFail start end t → (firstFail start end t ≡ never → ⊥) → firstFail start end t - n ≡ firstFail moved end t
+  pub next-less : n < firstFail start end t → (firstFail start end t ≡ never → ⊥)
+      → firstFail start end t - n ≡ firstFail moved end t
   next-less h some =
       let a : first * 2 ^ t < againOf start end = fails-first some in
       let f : first ≡ firstFail start end t = first-is start end t s e a in

@@ -1,4 +1,5 @@
--- The laws of the crate's doublings and of its test of a number (old_crate's Sequence): the one place that unfolds them. Assumes nothing.
+-- The laws of the crate's doublings and of its test of a number (def_crate's Sequence): the one place that unfolds
+-- them. Assumes nothing.
 use Prim.Native.Nat.{ℕ, suc, _+_, _*_, _-_, _%_, _^_, _≤_, _<_}
 use mathlib.Core.Path.{_≡_, ap, _∙_}
 use mathlib.Core.Bool.{true, false}
@@ -18,7 +19,8 @@ use Rattle.range.specs.Steps.{stepOf, onward}
 pub shl-away : (x k t : ℕ) → k ≤ t → x * 2 ^ t % 2 ^ k ≡ 0
 shl-away x k t h =
     let e : t ≡ t - k + k = omega arith in
-    let m : x * 2 ^ t ≡ x * 2 ^ (t - k) * 2 ^ k + 0 = ap (λ (n : ℕ). x * 2 ^ n) e ∙ (rw (pow-add, ← mul-assoc, add-zero)) in
+    let m : x * 2 ^ t ≡ x * 2 ^ (t - k) * 2 ^ k + 0 =
+    ap (λ (n : ℕ). x * 2 ^ n) e ∙ (rw (pow-add, ← mul-assoc, add-zero)) in
     ap (λ (n : ℕ). n % 2 ^ k) m ∙ low (x * 2 ^ (t - k)) k (pow-pos k)
 
 -- 16 bits of the product in 64 bits are the product in 16 bits
@@ -47,7 +49,8 @@ module _ (start end s : ℕ) where
   passes-ahead w = simp (lt-leb _ _ w)
 
 module _ (q start end t : ℕ) where
-  pub offset-passes : passes start end (sequenceOf q start t) ≡ true → offsetSequence q start end t ≡ Passes (sequenceOf q start t)
+  pub offset-passes : passes start end (sequenceOf q start t) ≡ true
+      → offsetSequence q start end t ≡ Passes (sequenceOf q start t)
   unfolding offsetSequence
   offset-passes e = rw e
 
@@ -60,14 +63,17 @@ module _ (q start end t : ℕ) where
 -- the next place's number is one step on
 pub sequenceOf-suc : (q start t : ℕ) → sequenceOf (suc q) start t ≡ onward (stepOf t) (sequenceOf q start t)
 sequenceOf-suc q start t = let m = 2 ^ t in
-    rw (mod-add-mod (suc q * m) circle start, mod-add-mod (q * m) circle start, mod-add-mod (q * m + start) circle (m % circle), add-mod-mod (q * m + start) m circle)
-    (ap (λ (x : ℕ). x % circle) (let e : suc q * m + start ≡ q * m + start + m = omega arith in e))
+    let e : suc q * m + start ≡ q * m + start + m = omega arith in
+    rw (mod-add-mod (suc q * m) circle start, mod-add-mod (q * m) circle start)
+    (rw (mod-add-mod (q * m + start) circle (m % circle), add-mod-mod (q * m + start) m circle)
+    (ap (λ (x : ℕ). x % circle) e))
 
 pub sequenceOf-zero : (start t : ℕ) → start < 65536 → sequenceOf 0 start t ≡ start
 sequenceOf-zero start t h =
-    rw (mod-add-mod (0 * 2 ^ t) circle start)
-    (mod-eq-of-lt (let k : 0 * 2 ^ t + start < 65536 = omega arith in k) ∙ (let k : 0 * 2 ^ t + start ≡ start = omega arith in k))
+    let z : 0 * 2 ^ t + start ≡ start = omega arith in
+    rw (mod-add-mod (0 * 2 ^ t) circle start, z) (mod-eq-of-lt h)
 
 -- a place's number, as a start that moved so far
 pub moved-sequence : (q t start : ℕ) → movedBy q t start ≡ sequenceOf q start t
-moved-sequence q t start = ap (λ (x : ℕ). x % 65536) (let e : start + q * 2 ^ t % 65536 ≡ q * 2 ^ t % 65536 + start = omega arith in e)
+moved-sequence q t start =
+    let e : start + q * 2 ^ t % 65536 ≡ q * 2 ^ t % 65536 + start = omega arith in ap (λ (x : ℕ). x % 65536) e

@@ -1,76 +1,83 @@
--- A vector's places as the binary digits of a number, most significant first, and its ones from the highest digit down. Assumes nothing.
---     digits           the k digits of a number
---     digits-vector    a vector's first places are digits
+-- A vector's places as the binary digits of a number, most significant first, and its ones from the highest down.
+-- Assumes nothing.
+--     digits                  the k digits of a number
+--     digits-append           the first of them are those of what is left when the others are shifted out
+--     digits-vector           a vector's first places are digits
 --     along-top, stop-top     the highest one, and then the others
-use Prim.Native.Nat.{ℕ, zero, suc, _+_, _*_, _-_, _/_, _%_, _^_, min, _≤_, _<_}
+use Prim.Native.Nat.{ℕ, zero, suc, _+_, _*_, _-_, _/_, _%_, _^_, _≤_, _<_}
 use mathlib.Core.Path.{_≡_, refl, sym, ap, _∙_}
 use mathlib.Core.Bool.{Bool, true, false, cond, not}
-use mathlib.Core.List.{List, [], _∷_, map}
-use native.Mathlib.Nat.{add-mul-div-right, add-mul-mod-self-right, div-eq-of-lt, mod-eq-of-lt, mod-lt, mod-add-mod, add-zero, pow-suc, div-one}
+use mathlib.Core.List.{List, [], _∷_, _++_}
+use native.Mathlib.Nat.{add-zero, div-eq-of-lt, mod-eq-of-lt, mod-lt, mod-add-mod, pow-suc}
 use native.Mathlib.Omega.{arith}
 use lib.Dec.{ltb, lit<}
-use lib.Pow.{pow-pos, pow-add, pow-mono, shr-shr}
-use lib.Arith.{digits-div}
-use lib.ListN.{take}
-use lib.Seq.{take-all}
+use lib.Pow.{pow-pos, pow-mono, shr-shr, field, mod-mod-pow, high, low}
+use lib.ListN.{length, take, replicate}
+use lib.Seq.{take-all, take-at}
 use borrow.Author.Tests.{ltb-true, ltb-false}
 use Rattle.laws.proofs.Tests.{either}
-use Rattle.def_standard.specs.Chunks.{valuesIn, countFrom}
+use Rattle.def_standard.specs.Chunks.{valuesIn}
 use Rattle.def_crate.specs.Sequence.{passes, sequenceOf}
 use Rattle.chunk.proofs.ChunkLaws.{values-take-vector, length-valuesIn, covers-vector}
 use Rattle.range.specs.Steps.{onward}
 use Rattle.rle.specs.Along.{along}
 use Rattle.rle.specs.Digits.{Top}
 use Rattle.rle.specs.Stops.{stopFrom}
+use Rattle.rle.proofs.ListingLaws.{along-zeros}
 
 unfoldable pub digits : ℕ → ℕ → List ℕ
 digits zero v = []
 digits (suc k) v = v / 2 ^ k % 2 ∷ digits k v
 
--- a digit above changes none below
-digit-above : (i k v : ℕ) → i < k → (2 ^ k + v) / 2 ^ i % 2 ≡ v / 2 ^ i % 2
-digit-above i k v h =
-    let c = 2 ^ (k - i - 1) in
-    let e : 2 ^ k ≡ c * 2 * 2 ^ i =
-    ap (λ (x : ℕ). 2 ^ x) (let z : k ≡ k - i - 1 + 1 + i = omega arith in z) ∙ pow-add 2 (k - i - 1 + 1) i ∙ ap (λ (x : ℕ). x * 2 ^ i) (pow-add 2 (k - i - 1) 1) in
-    let f : 2 ^ k + v ≡ v + c * 2 * 2 ^ i = omega (arith, e) in
-    rw (f, add-mul-div-right v (c * 2) (pow-pos i)) (add-mul-mod-self-right (v / 2 ^ i) c 2)
-
-digits-above : (i k v : ℕ) → i ≤ k → digits i (2 ^ k + v) ≡ digits i v
+pub length-digits : (k v : ℕ) → length (digits k v) ≡ k
 unfolding digits
-digits-above zero k v h = refl
-digits-above (suc i) k v h = rw (digit-above i k v h, digits-above i k v (omega arith))
+length-digits zero v = refl
+length-digits (suc k) v = ap suc (length-digits k v)
 
-digit-top : (k v : ℕ) → 2 ^ k ≤ v → v < 2 ^ suc k → v / 2 ^ k % 2 ≡ 1
-digit-top k v h l =
-    let e : v ≡ 1 * 2 ^ k + (v - 2 ^ k) = omega arith in
-    let m : v - 2 ^ k < 2 ^ k = omega (arith, pow-suc 2 k) in
-    rw e (ap (λ (x : ℕ). x % 2) (digits-div 1 m))
+pub digits-append : (n m v : ℕ) → digits (n + m) v ≡ digits n (v / 2 ^ m) ++ digits m v
+unfolding digits
+digits-append zero m v = let e : 0 + m ≡ m = omega arith in rw e
+digits-append (suc n) m v =
+    let e : suc n + m ≡ suc (n + m) = omega arith in
+    let c : n + m ≡ m + n = omega arith in
+    let d : v / 2 ^ (n + m) ≡ v / 2 ^ m / 2 ^ n = ap (λ (x : ℕ). v / 2 ^ x) c ∙ sym (shr-shr v m n) in
+    rw (e, d, digits-append n m v)
+
+-- digits above change none below
+pub digits-mod : (i k v : ℕ) → i ≤ k → digits i (v % 2 ^ k) ≡ digits i v
+unfolding digits
+digits-mod zero k v h = refl
+digits-mod (suc i) k v h =
+    let j = k - i - 1 in
+    let e : k ≡ j + 1 + i = omega arith in
+    let d : v % 2 ^ k / 2 ^ i % 2 ≡ v / 2 ^ i % 2 =
+    ap (λ (x : ℕ). v % 2 ^ x / 2 ^ i % 2) e ∙ (rw (field v (j + 1) i) (mod-mod-pow (v / 2 ^ i) j 1)) in
+    rw (d, digits-mod i k v (omega arith))
 
 digit-low : (k v : ℕ) → v < 2 ^ k → v / 2 ^ k % 2 ≡ 0
 digit-low k v h = rw (div-eq-of-lt h)
 
+pub digits-zero : (k : ℕ) → digits k 0 ≡ replicate k 0
+unfolding digits
+digits-zero zero = refl
+digits-zero (suc k) = rw (digit-low k 0 (pow-pos k), digits-zero k)
+
 module _ (w : ℕ) (h : 32768 ≤ w) where
-  vector-from : (n q : ℕ) → q + n ≤ 15 → map (λ (i : ℕ). w / 2 ^ (14 - i) % 2) (countFrom q n) ≡ digits n ((w - 32768) / 2 ^ (15 - (q + n)))
+  -- a vector's places are its 15 digits
+  pub digits-all : valuesIn w ≡ digits 15 w
   unfolding digits
-  vector-from zero q k = refl
-  vector-from (suc n) q k =
-      let e : 15 - (q + suc n) + n ≡ 14 - q = omega arith in
-      let s : 15 - (suc q + n) ≡ 15 - (q + suc n) = omega arith in
-      let u : w ≡ 2 ^ 15 + (w - 32768) = omega arith in
-      let head : w / 2 ^ (14 - q) % 2 ≡ (w - 32768) / 2 ^ (15 - (q + suc n)) / 2 ^ n % 2 =
-      ap (λ (x : ℕ). x / 2 ^ (14 - q) % 2) u ∙ digit-above (14 - q) 15 (w - 32768) (omega arith) ∙ (rw (shr-shr (w - 32768) (15 - (q + suc n)) n, e)) in
-      rw (head, vector-from n (suc q) (omega arith), s)
+  digits-all =
+      sym (take-all 15 (valuesIn w) (omega (arith, length-valuesIn w, covers-vector w h))) ∙ values-take-vector w 15 h
 
-  -- a vector's first places are the digits of what is left when the others are shifted out
-  pub digits-vector : (room : ℕ) → room ≤ 15 → take room (valuesIn w) ≡ digits room ((w - 32768) / 2 ^ (15 - room))
+  -- and its first places those of what is left when the others are shifted out
+  pub digits-vector : (room : ℕ) → room ≤ 15 → take room (valuesIn w) ≡ digits room (w % 32768 / 2 ^ (15 - room))
   digits-vector room k =
-      let e : min room 15 ≡ room = omega arith in
-      values-take-vector w room h ∙ (rw e (vector-from room 0 (omega arith) ∙ (let z : 0 + room ≡ room = omega arith in rw z)))
-
-  -- all its places are its 15 digits
-  pub digits-all : valuesIn w ≡ digits 15 (w - 32768)
-  digits-all = sym (take-all 15 (valuesIn w) (omega (arith, length-valuesIn w, covers-vector w h))) ∙ digits-vector 15 (omega arith) ∙ ap (digits 15) (div-one (w - 32768))
+      let e : room + (15 - room) ≡ 15 = omega arith in
+      let v = w / 2 ^ (15 - room) in
+      ap (take room) (digits-all ∙ ap (λ (n : ℕ). digits n w) (sym e) ∙ digits-append room (15 - room) w)
+      ∙ take-at (digits room v) (digits (15 - room) w) room (length-digits room v)
+      ∙ sym (digits-mod room room v (omega arith))
+      ∙ ap (digits room) (sym (field w room (15 - room)) ∙ ap (λ (x : ℕ). w % 2 ^ x / 2 ^ (15 - room)) e)
 
 -- it is one of k digits
 pub top-below : {v j : ℕ} (k : ℕ) → v < 2 ^ k → Top v j → j < k
@@ -78,71 +85,83 @@ top-below {v} {j} k h t =
     either (ltb j k) (λ y. ltb-true _ _ y)
     (λ n. let l : k ≤ j = ltb-false _ _ n in let p : 2 ^ k ≤ 2 ^ j = pow-mono l in absurd (omega (arith, t .least)))
 
-top-is : (k v j : ℕ) → 2 ^ k ≤ v → v < 2 ^ suc k → Top v j → j ≡ k
-top-is k v j b l t =
-    let i : j < suc k = top-below (suc k) l t in
-    either (ltb j k)
-    (λ y. let h : j < k = ltb-true _ _ y in let p : 2 ^ suc j ≤ 2 ^ k = pow-mono h in absurd (omega (arith, t .below)))
-    (λ n. let h : k ≤ j = ltb-false _ _ n in omega arith)
+-- the digits of a number and of what is left without its highest one differ there only
+module _ (k v j : ℕ) (l : v < 2 ^ k) (t : Top v j) where
+  abbrev left : ℕ
+  left = v - 2 ^ j
 
--- a choice turned round
-cond-not : {A : Type 0} (b : Bool) (x y : A) → cond (not b) x y ≡ cond b y x
-cond-not true x y = refl
-cond-not false x y = refl
+  below : left < 2 ^ j
+  below = omega (arith, t .least, t .below, pow-suc 2 j)
+
+  all : v ≡ 1 * 2 ^ j + left
+  all = omega (arith, t .least)
+
+  digits-at : (x : ℕ) → x < 2 ^ suc j → digits k x ≡ replicate (k - 1 - j) 0 ++ (x / 2 ^ j % 2 ∷ digits j x)
+  unfolding digits
+  digits-at x h =
+      let i : j < k = top-below k l t in
+      let e : k ≡ k - 1 - j + suc j = omega arith in
+      ap (λ (n : ℕ). digits n x) e ∙ digits-append (k - 1 - j) (suc j) x
+      ∙ (rw (div-eq-of-lt h, digits-zero (k - 1 - j)))
+
+  with-top : digits k v ≡ replicate (k - 1 - j) 0 ++ (1 ∷ digits j left)
+  with-top =
+      let d : v / 2 ^ j ≡ 1 = ap (λ (x : ℕ). x / 2 ^ j) all ∙ high 1 j below in
+      let m : v % 2 ^ j ≡ left = ap (λ (x : ℕ). x % 2 ^ j) all ∙ low 1 j below in
+      let tail : digits j v ≡ digits j left = sym (digits-mod j j v (omega arith)) ∙ ap (digits j) m in
+      digits-at v (t .below) ∙ (rw (d, tail))
+
+  without-top : digits k left ≡ replicate (k - 1 - j) 0 ++ (0 ∷ digits j left)
+  without-top = digits-at left (omega (arith, below, pow-suc 2 j)) ∙ (rw (digit-low j left below))
 
 -- no digit is one
 pub along-none : (step x k : ℕ) → along step x (digits k 0) ≡ []
-unfolding along digits
-along-none step x zero = refl
-along-none step x (suc k) = rw (digit-low k 0 (pow-pos k)) (along-none step (onward step x) k)
+along-none step x k = rw (digits-zero k) (along-zeros step x k)
+
+-- a one behind n zeros comes first, and then the others
+along-first : (step x n : ℕ) (vs : List ℕ) → x < 65536
+    → along step x (replicate n 0 ++ (1 ∷ vs)) ≡ (x + n * step) % 65536 ∷ along step x (replicate n 0 ++ (0 ∷ vs))
+unfolding along
+along-first step x zero vs h =
+    let e : x + 0 * step ≡ x = omega arith in rw (e, mod-eq-of-lt h)
+along-first step x (suc n) vs h =
+    let e : x + suc n * step ≡ x + step + n * step = omega arith in
+    rw (e, ← mod-add-mod (x + step) 65536 (n * step))
+    (along-first step (onward step x) n vs (mod-lt (x + step) (lit< tt)))
 
 -- the highest digit comes first; it is k - 1 - j places on
 pub along-top : (step x k v j : ℕ) → x < 65536 → v < 2 ^ k → Top v j
     → along step x (digits k v) ≡ (x + (k - 1 - j) * step) % 65536 ∷ along step x (digits k (v - 2 ^ j))
-unfolding along digits
-along-top step x zero v j h l t = let b : j < 0 = top-below 0 l t in absurd (omega arith)
-along-top step x (suc k) v j h l t =
-    either (ltb v (2 ^ k))
-    (λ low. let b : v < 2 ^ k = ltb-true _ _ low in
-    let i : j < k = top-below k b t in
-    let m : v - 2 ^ j < 2 ^ k = omega arith in
-    let n : suc k - 1 - j ≡ suc (k - 1 - j) = omega arith in
-    let number : (onward step x + (k - 1 - j) * step) % 65536 ≡ (x + suc (k - 1 - j) * step) % 65536 =
-    mod-add-mod (x + step) 65536 ((k - 1 - j) * step) ∙ ap (λ (y : ℕ). y % 65536) (let z : x + step + (k - 1 - j) * step ≡ x + suc (k - 1 - j) * step = omega arith in z) in
-    rw (digit-low k v b, digit-low k (v - 2 ^ j) m, n, ← number)
-    (along-top step (onward step x) k v j (mod-lt (x + step) (lit< tt)) b t))
-    (λ high. let b : 2 ^ k ≤ v = ltb-false _ _ high in
-    let e : j ≡ k = top-is k v j b l t in
-    let m : v - 2 ^ k < 2 ^ k = omega (arith, pow-suc 2 k) in
-    let u : v ≡ 2 ^ k + (v - 2 ^ k) = omega arith in
-    let tail : digits k v ≡ digits k (v - 2 ^ k) = ap (digits k) u ∙ digits-above k k (v - 2 ^ k) (omega arith) in
-    let number : (x + (suc k - 1 - k) * step) % 65536 ≡ x = ap (λ (y : ℕ). y % 65536) (let z : x + (suc k - 1 - k) * step ≡ x = (let y : suc k - 1 - k ≡ 0 = omega arith in rw y (let o : x + 0 * step ≡ x = omega arith in o)) in z) ∙ mod-eq-of-lt h in
-    rw (e, number, digit-top k v b l, digit-low k (v - 2 ^ k) m, tail))
+along-top step x k v j h l t =
+    rw (with-top k v j l t, without-top k v j l t) (along-first step x (k - 1 - j) (digits j (v - 2 ^ j)) h)
 
--- no digit is one: no place fails
-pub stop-none : (start end t q k : ℕ) → stopFrom start end t q (digits k 0) ≡ q + k
-unfolding stopFrom digits
-stop-none start end t q zero = sym (add-zero q)
-stop-none start end t q (suc k) = rw (digit-low k 0 (pow-pos k)) (stop-none start end t (suc q) k ∙ (let e : suc q + k ≡ q + suc k = omega arith in e))
+-- a choice turned round
+cond-not : (b : Bool) (x y : ℕ) → cond (not b) x y ≡ cond b y x
+cond-not true x y = refl
+cond-not false x y = refl
 
--- the highest digit is tried first
-pub stop-top : (start end t q k v j : ℕ) → v < 2 ^ k → Top v j
-    → stopFrom start end t q (digits k v)
-    ≡ cond (passes start end (sequenceOf (q + (k - 1 - j)) start t)) (stopFrom start end t q (digits k (v - 2 ^ j))) (q + (k - 1 - j))
-unfolding stopFrom digits
-stop-top start end t q zero v j l p = let b : j < 0 = top-below 0 l p in absurd (omega arith)
-stop-top start end t q (suc k) v j l p =
-    either (ltb v (2 ^ k))
-    (λ low. let b : v < 2 ^ k = ltb-true _ _ low in
-    let i : j < k = top-below k b p in
-    let m : v - 2 ^ j < 2 ^ k = omega arith in
-    let n : q + (suc k - 1 - j) ≡ suc q + (k - 1 - j) = omega arith in
-    rw (digit-low k v b, digit-low k (v - 2 ^ j) m, n) (stop-top start end t (suc q) k v j b p))
-    (λ high. let b : 2 ^ k ≤ v = ltb-false _ _ high in
-    let e : j ≡ k = top-is k v j b l p in
-    let m : v - 2 ^ k < 2 ^ k = omega (arith, pow-suc 2 k) in
-    let u : v ≡ 2 ^ k + (v - 2 ^ k) = omega arith in
-    let tail : digits k v ≡ digits k (v - 2 ^ k) = ap (digits k) u ∙ digits-above k k (v - 2 ^ k) (omega arith) in
-    let n : q + (suc k - 1 - k) ≡ q = omega arith in
-    rw (e, digit-top k v b l, digit-low k (v - 2 ^ k) m, n, tail)
-    (cond-not (passes start end (sequenceOf q start t)) q (stopFrom start end t (suc q) (digits k (v - 2 ^ k)))))
+module _ (start end t : ℕ) where
+  -- no digit is one: no place fails
+  pub stop-none : (q k : ℕ) → stopFrom start end t q (digits k 0) ≡ q + k
+  unfolding stopFrom digits
+  stop-none q zero = sym (add-zero q)
+  stop-none q (suc k) =
+      let e : suc q + k ≡ q + suc k = omega arith in rw (digit-low k 0 (pow-pos k)) (stop-none (suc q) k ∙ e)
+
+  -- a one behind n zeros is tried first
+  stop-first : (q n : ℕ) (vs : List ℕ)
+      → stopFrom start end t q (replicate n 0 ++ (1 ∷ vs))
+      ≡ cond (passes start end (sequenceOf (q + n) start t)) (stopFrom start end t q (replicate n 0 ++ (0 ∷ vs)))
+      (q + n)
+  unfolding stopFrom
+  stop-first q zero vs =
+      rw (add-zero q) (cond-not (passes start end (sequenceOf q start t)) q (stopFrom start end t (suc q) vs))
+  stop-first q (suc n) vs = let e : q + suc n ≡ suc q + n = omega arith in rw e (stop-first (suc q) n vs)
+
+  -- the highest digit is tried first
+  pub stop-top : (q k v j : ℕ) → v < 2 ^ k → Top v j
+      → stopFrom start end t q (digits k v)
+      ≡ cond (passes start end (sequenceOf (q + (k - 1 - j)) start t)) (stopFrom start end t q (digits k (v - 2 ^ j)))
+      (q + (k - 1 - j))
+  stop-top q k v j l p =
+      rw (with-top k v j l p, without-top k v j l p) (stop-first q (k - 1 - j) (digits j (v - 2 ^ j)))

@@ -1,30 +1,27 @@
--- The standard list, word by word and place by place. Assumes nothing.
+-- The standard list, word by word. Assumes nothing.
 --     numbers-cons      one word's numbers, and then those of the rest
 --     numbers-outside   nothing is listed from a position outside on
 --     numbers-along     values from a position on: numbers one step apart, as far as the range goes
---     places-cons       a word's numbers from a place on, place by place
-use Prim.Native.Nat.{ℕ, suc, _+_, _*_, _-_, _%_, _^_, _≤_, _<_}
+use Prim.Native.Nat.{ℕ, suc, _+_, _-_, _≤_, _<_}
 use mathlib.Core.Path.{_≡_, refl, ap}
 use mathlib.Core.Bool.{false, cond}
 use mathlib.Core.List.{List, [], _∷_, _++_}
-use native.Mathlib.Nat.{mod-add-mod, add-mod-mod}
 use native.Mathlib.Omega.{arith}
-use lib.ListN.{length, take, getD, length-take}
-use lib.Seq.{take-nil, drop-cons}
+use lib.ListN.{length, take, length-take}
+use lib.Seq.{take-nil}
 use lib.Dec.{ltb, eqb}
 use borrow.Author.Tests.{ltb-true, ltb-false}
 use Rattle.laws.proofs.Tests.{either, and-false-r, and-true-r}
 use Rattle.def_standard.specs.declared.Range.{Range}
 use Rattle.def_standard.specs.Chunks.{coversOf, valuesIn}
 use Rattle.def_standard.specs.Listing.{listFrom}
-use Rattle.def_standard.specs.Range.{numberOf, offsetOf, circle}
+use Rattle.def_standard.specs.Range.{numberOf}
 use Rattle.def_standard.specs.Standard.{isListed, valuesOf, numbersFrom}
 use Rattle.chunk.proofs.ChunkLaws.{length-valuesIn}
-use Rattle.range.specs.Steps.{onward}
-use Rattle.rle.specs.Along.{along}
 use Rattle.range.specs.Inside.{insideCount}
 use Rattle.range.specs.Steps.{stepOf}
-use Rattle.rle.specs.Places.{numbersIn, placesFrom, wordNumbers}
+use Rattle.rle.specs.Along.{along}
+use Rattle.rle.specs.Places.{numbersIn, wordNumbers}
 use Rattle.rle.proofs.ListingLaws.{listFrom-append, listFrom-none, length-along-le}
 use Rattle.range.proofs.InsideLaws.{is-inside, is-outside, numberOf-suc}
 
@@ -35,9 +32,11 @@ module _ (g : Range) where
   numbers-nil p = refl
 
   -- one word's numbers, and then those of the rest
-  pub numbers-cons : (p w : ℕ) (ws : List ℕ) → numbersFrom g p (w ∷ ws) ≡ wordNumbers g p w ++ numbersFrom g (p + coversOf w) ws
+  pub numbers-cons : (p w : ℕ) (ws : List ℕ)
+      → numbersFrom g p (w ∷ ws) ≡ wordNumbers g p w ++ numbersFrom g (p + coversOf w) ws
   unfolding numbersFrom valuesOf numbersIn
-  numbers-cons p w ws = rw (← length-valuesIn w) (listFrom-append (isListed g) (λ q value. numberOf g q) p (valuesIn w) (valuesOf ws))
+  numbers-cons p w ws =
+      rw (← length-valuesIn w) (listFrom-append (isListed g) (λ q value. numberOf g q) p (valuesIn w) (valuesOf ws))
 
   outside-listed : (p q v : ℕ) → insideCount g ≤ p → p ≤ q → isListed g q v ≡ false
   outside-listed p q v h k = rw (is-outside g q (let j : insideCount g ≤ q = omega arith in j)) (and-false-r (eqb v 1))
@@ -45,7 +44,8 @@ module _ (g : Range) where
   -- nothing is listed from a position outside on
   pub numbersIn-outside : (p : ℕ) (vs : List ℕ) → insideCount g ≤ p → numbersIn g p vs ≡ []
   unfolding numbersIn
-  numbersIn-outside p vs h = listFrom-none (isListed g) (λ q value. numberOf g q) p vs (λ q v k. outside-listed p q v h k)
+  numbersIn-outside p vs h =
+      listFrom-none (isListed g) (λ q value. numberOf g q) p vs (λ q v k. outside-listed p q v h k)
 
   pub numbers-outside : (p : ℕ) (ws : List ℕ) → insideCount g ≤ p → numbersFrom g p ws ≡ []
   unfolding numbersFrom numbersIn
@@ -63,7 +63,8 @@ module _ (g : Range) where
   numbersIn-cons p v vs = refl
 
   -- values from a position on: numbers one step apart, as far as the range goes
-  pub numbers-along : (p : ℕ) (vs : List ℕ) → numbersIn g p vs ≡ along (stepOf (g .thinning)) (numberOf g p) (take (insideCount g - p) vs)
+  pub numbers-along : (p : ℕ) (vs : List ℕ)
+      → numbersIn g p vs ≡ along (stepOf (g .thinning)) (numberOf g p) (take (insideCount g - p) vs)
   unfolding numbersIn along
   numbers-along p [] = rw (take-nil (insideCount g - p))
   numbers-along p (v ∷ vs) =
@@ -75,18 +76,11 @@ module _ (g : Range) where
       let e : insideCount g - p ≡ 0 = omega arith in
       rw e (numbersIn-outside p (v ∷ vs) h))
 
-  -- a word's numbers from a place on, place by place
-  pub places-cons : (p w q : ℕ) → q < coversOf w
-      → placesFrom g p w q ≡ cond (isListed g p (getD (valuesIn w) q 0)) (numberOf g p ∷ placesFrom g (suc p) w (suc q)) (placesFrom g (suc p) w (suc q))
-  places-cons p w q h = let k : q < length (valuesIn w) = omega (arith, length-valuesIn w) in
-      rw (drop-cons (valuesIn w) q 0 k) (numbersIn-cons p _ _)
-
   -- no more are listed than are inside
   pub length-numbers : (ws : List ℕ) → length (numbersFrom g 0 ws) ≤ insideCount g
   unfolding numbersFrom
   length-numbers ws =
       let l = take (insideCount g - 0) (valuesOf ws) in
-      let e : length (numbersIn g 0 (valuesOf ws)) ≡ length (along (stepOf (g .thinning)) (numberOf g 0) l) = ap length (numbers-along 0 (valuesOf ws)) in
-      let k : length l ≤ insideCount g - 0 = rw (length-take (insideCount g - 0) (valuesOf ws)) (omega arith) in
-      let j : length (along (stepOf (g .thinning)) (numberOf g 0) l) ≤ length l = length-along-le (stepOf (g .thinning)) (numberOf g 0) l in
-      rw (numbersIn-is 0 (valuesOf ws)) (omega (arith, e, k, j))
+      let few = length-along-le (stepOf (g .thinning)) (numberOf g 0) l in
+      rw (numbersIn-is 0 (valuesOf ws))
+      (omega (arith, ap length (numbers-along 0 (valuesOf ws)), few, length-take (insideCount g - 0) (valuesOf ws)))

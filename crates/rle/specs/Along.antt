@@ -2,12 +2,12 @@
 --     progression    a run of them
 --     past           the one after a run
 --     along          those of value one
-use Prim.Native.Nat.{ℕ, zero, suc}
+--     fitting        a list, where there is room for it
+use Prim.Native.Nat.{ℕ, zero, suc, _+_}
 use mathlib.Core.Bool.{cond}
-use mathlib.Core.Path.{_≡_}
-use mathlib.Core.List.{List, [], _∷_, _++_}
-use lib.ListN.{length, drop}
-use lib.Dec.{eqb}
+use mathlib.Core.List.{List, [], _∷_}
+use lib.ListN.{length}
+use lib.Dec.{eqb, leb}
 use Rattle.range.specs.Steps.{onward}
 
 -- n numbers from the first on
@@ -23,8 +23,9 @@ past step first (suc n) = onward step (past step first n)
 -- the first value has the first number
 unfoldable pub along : ℕ → ℕ → List ℕ → List ℕ
 along step first [] = []
-along step first (v ∷ vs) = cond (eqb v 1) (first ∷ along step (onward step first) vs) (along step (onward step first) vs)
+along step first (v ∷ vs) =
+    cond (eqb v 1) (first ∷ along step (onward step first) vs) (along step (onward step first) vs)
 
--- what a list that fits leaves: its length as the answer, and it in front of the old contents
-abbrev pub Filled : List ℕ → List ℕ → ℕ → List ℕ → Type 0
-Filled whole out r out′ = (r ≡ length whole) × (out′ ≡ whole ++ drop (length whole) out)
+-- all of xs, where there is room for it from index `at` on among `size`; else nothing
+unfoldable pub fitting : ℕ → ℕ → List ℕ → List ℕ
+fitting size at xs = cond (leb (at + length xs) size) xs []

@@ -1,5 +1,6 @@
--- What the functions of this crate compute on their way to the definitions' lists. Read in this order: Along (numbers one step apart, listed), Places (the
--- standard list by places), Stops (where the crate's list of a word ends), Runs (words that were passed), Digits.
+-- What the functions of this crate compute on their way to the definitions' lists. Read in this order: Along (numbers
+-- one step apart, listed), Places (one word's places), Stops (where the crate's list of a word ends), Runs (words that
+-- were passed), Digits.
 pub mod Along
 pub mod Places
 pub mod Stops

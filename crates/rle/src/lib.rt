@@ -4,22 +4,18 @@ mod list;
 mod word;
 
 ghost use mathlib.Core.Path.{_≡_};
-ghost use Prim.Native.Nat.{_-_, min};
-ghost use lib.ListN.{length, take};
+ghost use lib.ListN.{length, take, drop};
 ghost use Rattle.def_wire.specs.Bytes.{words16};
 ghost use Rattle.def_refusals.specs.Answers.{shown, Listed};
-ghost use Rattle.def_standard.specs.Range.{rangeOf, numberOf};
+ghost use Rattle.def_standard.specs.Chunks.{valuesIn};
 ghost use Rattle.def_standard.specs.Standard.{numbersOf};
 ghost use Rattle.def_crate.specs.Crate.{crateNumbersFrom};
-ghost use Rattle.laws.proofs.Stores.{Wrote};
-ghost use Rattle.rle.specs.Along.{progression};
-ghost use Rattle.range.specs.Inside.{insideCount};
-ghost use Rattle.range.specs.Failing.{againOf, firstFail};
+ghost use Rattle.laws.specs.Stores.{Wrote};
+ghost use Rattle.rle.specs.Along.{along, fitting};
 ghost use Rattle.rle.specs.Stops.{longest};
 use def_refusals::Answer;
 use def_refusals::Refusal;
 use def_standard::Range;
-use def_wire::Fields;
 
 // The crate reading's functions read no more bytes than the longest packet has.
 const LONGEST: usize = 262144;
@@ -86,16 +82,27 @@ pub fn fill_crate(bytes: &[u8], end: u16, thinning: u8, begin: u16, out: &mut [u
     Answer::Done(list::list_crate(part, end, thinning, begin, out))
 }
 
-// Stores numbers one step apart from an index on, as many as asked and as there is room for; answers the index past them.
-pub fn put_run(out: &mut [u16], at: usize, count: usize, first: u16, step: u16) -> usize
-    ensures { λ r. ⌜ Wrote (now (out .entry)) at (progression step first (min count (length (now (out .entry)) - at))) (now (out .exit)) r ⌝ }
+// Stores the numbers of the ones among some places of a word, from a place on and one step apart, where there is room for all of them;
+// else nothing. Answers the index past those stored. (The cursor stops and goes on inside a word.)
+pub fn put_places(
+    out: &mut [u16],
+    at: usize,
+    w: u16,
+    place: usize,
+    room: usize,
+    first: u16,
+    step: u16,
+) -> usize
+    ensures { λ r. ⌜ Wrote (now (out .entry)) at (fitting (length (now (out .entry))) at (along step first (take room (drop place (valuesIn w))))) (now (out .exit)) r ⌝ }
 {
-    if out.len() <= at {
+    let rest = word::rest_of(w, place);
+    if out.len() < at {
         return at;
     }
-    let room = utils::lesser(count, out.len() - at);
-    let r = word::store_run(out, at, room, first, step);
-    r.n
+    if out.len() - at < chunk::ones_before(rest, room) {
+        return at;
+    }
+    word::store_word(out, at, rest, room, first, step)
 }
 
 // How many whole words there are.

@@ -7,7 +7,7 @@ ghost use lib.ListN.{length};
 ghost use Rattle.def_wire.specs.Bytes.{words16};
 ghost use Rattle.def_standard.specs.Standard.{numbersOf};
 ghost use Rattle.def_crate.specs.Crate.{crateNumbersFrom};
-ghost use Rattle.rle.specs.Along.{Filled};
+ghost use Rattle.laws.specs.Stores.{Filled};
 ghost use Rattle.range.specs.Steps.{stepOf};
 ghost use Rattle.rle.specs.Stops.{mostOf};
 ghost use Rattle.range.specs.Failing.{firstFail};

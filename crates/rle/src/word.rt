@@ -1,14 +1,14 @@
 // One chunk word: its numbers stored, and where its first failing one is. Private to the crate.
 ghost use mathlib.Core.Path.{_≡_};
-ghost use Prim.Native.Nat.{_+_, _*_, _-_, _/_, _%_, _^_, min, _≤_, _<_};
+ghost use Prim.Native.Nat.{_+_, _*_, _-_, _%_, _^_, _≤_, _<_};
 ghost use mathlib.Core.Bool.{cond};
 ghost use lib.Dec.{ltb};
 ghost use lib.ListN.{length, take};
-ghost use Rattle.def_standard.specs.Chunks.{coversOf, valueOf, valuesIn};
-ghost use Rattle.laws.proofs.Stores.{Wrote};
+ghost use Rattle.def_standard.specs.Chunks.{coversOf, valuesIn};
+ghost use Rattle.laws.specs.Stores.{Wrote};
 ghost use Rattle.rle.specs.Along.{progression, past, along};
-ghost use Rattle.range.specs.Inside.{ceilDiv};
 ghost use Rattle.range.specs.Failing.{firstFail};
+ghost use Rattle.rle.specs.Places.{restOf};
 ghost use Rattle.rle.specs.Stops.{stopAt};
 ghost use Rattle.rle.specs.Digits.{Top};
 ghost use Rattle.def_crate.specs.Sequence.{movedBy};
@@ -21,6 +21,16 @@ pub(crate) fn weight(w: u16) -> u32
         return 0;
     }
     chunk::covers(w) as u32
+}
+
+// The word that has a word's places from one on: a shorter run, or a vector that ends in zeros.
+pub(crate) fn rest_of(w: u16, place: usize) -> u16
+    ensures { λ r. ⌜ r ≡ restOf w place ⌝ }
+{
+    if w < 0x8000 {
+        return w - utils::lesser(place, chunk::run_length(w) as usize) as u16;
+    }
+    0x8000 + (((w as u32) << utils::lesser(place, 15)) & 0x7fff) as u16
 }
 
 // The place of a number's highest one, counted from below.

@@ -1,5 +1,5 @@
 -- The laws of wire's big-endian numbers and words: the one place that unfolds `pairUp`. Assumes nothing.
---     Bytes, be16-lt, ..      bytes below 256 make a number below its limit
+--     Bytes, be16-lt          bytes below 256 make a number below its limit
 --     be16-past, ..           past the end it is 0
 --     Same, be16-same, ..     the same bytes elsewhere (in a part, behind a front) are the same number
 --     be16-two, ..            a number's bytes read back
@@ -24,12 +24,6 @@ Bytes s = (i : ℕ) → getD s i 0 < 256
 
 pub be16-lt : (s : List ℕ) (at : ℕ) → Bytes s → be16 s at < 65536
 be16-lt s at h = omega (arith, h at, h (at + 1))
-
-pub be32-lt : (s : List ℕ) (at : ℕ) → Bytes s → be32 s at < 4294967296
-be32-lt s at h = omega (arith, be16-lt s at h, be16-lt s (at + 2) h)
-
-pub be64-lt : (s : List ℕ) (at : ℕ) → Bytes s → be64 s at < 2 ^ 64
-be64-lt s at h = omega (arith, be32-lt s at h, be32-lt s (at + 4) h)
 
 -- past the end it is 0
 pub byteAt-past : (s : List ℕ) (at : ℕ) → length s ≤ at → byteAt s at ≡ 0
@@ -63,7 +57,8 @@ module _ (s : List ℕ) (i : ℕ) (t : List ℕ) (j : ℕ) where
 
 -- the same bytes are the same number
 pub be16-same : (s : List ℕ) (i : ℕ) (t : List ℕ) (j : ℕ) → Same 2 s i t j → be16 s i ≡ be16 t j
-be16-same s i t j h = let e : byteAt s i ≡ byteAt t j = simp add-zero at (h 0 (omega arith)) in rw (e, h 1 (omega arith))
+be16-same s i t j h =
+    let e : byteAt s i ≡ byteAt t j = simp add-zero at (h 0 (omega arith)) in rw (e, h 1 (omega arith))
 
 pub be32-same : (s : List ℕ) (i : ℕ) (t : List ℕ) (j : ℕ) → Same 4 s i t j → be32 s i ≡ be32 t j
 be32-same s i t j h =
@@ -85,18 +80,12 @@ same-part m k n s i l q h = getD-take n (drop k s) (i + q) 0 (omega arith) ∙ s
 
 -- behind a front
 pub same-behind : (m : ℕ) (a s : List ℕ) (i : ℕ) → Same m (a ++ s) (length a + i) s i
-same-behind m a s i q h = let e : length a + i + q ≡ length a + (i + q) = omega arith in rw e (getD-append-add a s (i + q) 0)
+same-behind m a s i q h =
+    let e : length a + i + q ≡ length a + (i + q) = omega arith in rw e (getD-append-add a s (i + q) 0)
 
 -- the number in a part is the number in the whole
-module _ (k n : ℕ) (s : List ℕ) (i : ℕ) where
-  pub be16-part : i + 2 ≤ n → be16 (take n (drop k s)) i ≡ be16 s (k + i)
-  be16-part h = be16-same (take n (drop k s)) i s (k + i) (same-part 2 k n s i h)
-
-  pub be32-part : i + 4 ≤ n → be32 (take n (drop k s)) i ≡ be32 s (k + i)
-  be32-part h = be32-same (take n (drop k s)) i s (k + i) (same-part 4 k n s i h)
-
-  pub be64-part : i + 8 ≤ n → be64 (take n (drop k s)) i ≡ be64 s (k + i)
-  be64-part h = be64-same (take n (drop k s)) i s (k + i) (same-part 8 k n s i h)
+pub be16-part : (k n : ℕ) (s : List ℕ) (i : ℕ) → i + 2 ≤ n → be16 (take n (drop k s)) i ≡ be16 s (k + i)
+be16-part k n s i h = be16-same (take n (drop k s)) i s (k + i) (same-part 2 k n s i h)
 
 -- ---- a number's bytes read back
 
@@ -105,7 +94,8 @@ two-back x s = sym (mod-mul x {m = 256} {c = 256} (lit< tt) (lit< tt))
 
 four-back : (x : ℕ) (s : List ℕ) → be32 (four x ++ s) 0 ≡ x % 4294967296
 four-back x s =
-    ap₂ (λ (a b : ℕ). a * 65536 + b) (two-back (x / 65536) (two x ++ s)) (two-back x s) ∙ sym (mod-mul x {m = 65536} {c = 65536} (lit< tt) (lit< tt))
+    ap₂ (λ (a b : ℕ). a * 65536 + b) (two-back (x / 65536) (two x ++ s)) (two-back x s)
+    ∙ sym (mod-mul x {m = 65536} {c = 65536} (lit< tt) (lit< tt))
 
 eight-back : (x : ℕ) (s : List ℕ) → be64 (eight x ++ s) 0 ≡ x % 2 ^ 64
 eight-back x s =
@@ -149,7 +139,8 @@ length-pairUp b [] = refl
 length-pairUp b (x ∷ []) = refl
 length-pairUp b (x ∷ y ∷ s) = let e = length-pairUp b s in omega arith
 
-pub getD-pairUp : (b : ℕ) (s : List ℕ) (i : ℕ) → i < length s / 2 → getD (pairUp b s) i 0 ≡ getD s (2 * i) 0 * b + getD s (2 * i + 1) 0
+pub getD-pairUp : (b : ℕ) (s : List ℕ) (i : ℕ) → i < length s / 2
+    → getD (pairUp b s) i 0 ≡ getD s (2 * i) 0 * b + getD s (2 * i + 1) 0
 unfolding pairUp
 getD-pairUp b [] i h = absurd (omega arith)
 getD-pairUp b (x ∷ []) i h = absurd (omega arith)
@@ -160,17 +151,14 @@ getD-pairUp b (x ∷ y ∷ s) (suc i) h =
     rw (e, k) (getD-pairUp b s i (omega arith))
 
 -- from an index with four whole bytes behind it on
-pub words32-cons : (s : List ℕ) (at : ℕ) → at + 4 ≤ length s → words32 (drop at s) ≡ be32 s at ∷ words32 (drop (at + 4) s)
+pub words32-cons : (s : List ℕ) (at : ℕ) → at + 4 ≤ length s
+    → words32 (drop at s) ≡ be32 s at ∷ words32 (drop (at + 4) s)
 unfolding pairUp
 words32-cons s at h =
     let e : at + 4 ≡ at + 2 + 2 = omega arith in
     let i : at + 2 ≤ length s = omega arith in
     let j : at + 2 + 2 ≤ length s = omega arith in
     rw (e, pairUp-cons 256 s at i, pairUp-cons 256 s (at + 2) j)
-
--- fewer than four are left
-pub words32-end : (s : List ℕ) (at : ℕ) → length s ≤ at + 3 → words32 (drop at s) ≡ []
-words32-end s at h = pairUp-short 65536 (words16 (drop at s)) (omega (arith, length-pairUp 256 (drop at s), length-drop at s))
 
 pub length-words32 : (s : List ℕ) → length (words32 s) ≡ length s / 4
 length-words32 s = omega (arith, length-pairUp 65536 (words16 s), length-pairUp 256 s)

@@ -22,10 +22,14 @@ pub two-low : (x : ℕ) → two (x % 65536) ≡ two x
 two-low x = ap₂ (λ (a b : ℕ). a ∷ b ∷ []) (omega arith) (omega arith)
 
 pub four-low : (x : ℕ) → four (x % 4294967296) ≡ four x
-four-low x = ap₂ (λ (a b : List ℕ). a ++ b) (sym (two-low (x % 4294967296 / 65536)) ∙ ap two (omega arith) ∙ two-low (x / 65536)) (sym (two-low (x % 4294967296)) ∙ ap two (omega arith) ∙ two-low x)
+four-low x =
+    let y = x % 4294967296 in
+    ap₂ (λ (a b : List ℕ). a ++ b) (sym (two-low (y / 65536)) ∙ ap two (omega arith) ∙ two-low (x / 65536))
+    (sym (two-low y) ∙ ap two (omega arith) ∙ two-low x)
 
 -- a run of stores and one behind it, known by an equation, are one run
-sets-halves : (l m n a b c : List ℕ) (i : ℕ) → m ≡ sets l i a → n ≡ sets m (i + length a) c → c ≡ b → n ≡ sets l i (a ++ b)
+sets-halves : (l m n a b c : List ℕ) (i : ℕ) → m ≡ sets l i a → n ≡ sets m (i + length a) c → c ≡ b
+    → n ≡ sets l i (a ++ b)
 sets-halves l m n a b c i p q e = q ∙ (rw (p, e) (sets-append a b l i (i + length a) refl))
 
 -- the high half and then the low half are the whole
@@ -33,5 +37,6 @@ module _ (l m n : List ℕ) (i x : ℕ) where
   pub sets-four : m ≡ sets l i (two (x / 65536)) → n ≡ sets m (i + 2) (two (x % 65536)) → n ≡ sets l i (four x)
   sets-four p q = sets-halves l m n (two (x / 65536)) (two x) (two (x % 65536)) i p q (two-low x)
 
-  pub sets-eight : m ≡ sets l i (four (x / 4294967296)) → n ≡ sets m (i + 4) (four (x % 4294967296)) → n ≡ sets l i (eight x)
+  pub sets-eight : m ≡ sets l i (four (x / 4294967296)) → n ≡ sets m (i + 4) (four (x % 4294967296))
+      → n ≡ sets l i (eight x)
   sets-eight p q = sets-halves l m n (four (x / 4294967296)) (four x) (four (x % 4294967296)) i p q (four-low x)

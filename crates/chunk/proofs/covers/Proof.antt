@@ -6,12 +6,6 @@ use Rattle.chunk.proofs.ChunkLaws.{covers-run, covers-vector}
 use Rattle.chunk.proofs.covers.Statement.{statement}
 use Rattle.chunk.proofs.covers.Tie as tie
 
-kind-bit-requires : tie.Need-kind-bit-requires
-kind-bit-requires c κs = search needs
-
-run-length-requires : tie.Need-run-length-requires
-run-length-requires c κs = search needs
-
 returns : tie.Need-returns
 returns c = c .run-length .ensures ∙ sym (covers-run (c .before .before .before .args .w) (omega arith))
 
@@ -19,4 +13,5 @@ returns-2 : tie.Need-returns-2
 returns-2 c = sym (covers-vector (c .before .before .args .w) (omega arith))
 
 pub covers-spec : {M : Type 1} → statement M
-covers-spec = tie.close (tie.spec kind-bit-requires run-length-requires returns returns-2)
+covers-spec =
+    tie.close (tie.spec (λ c κs. search needs) (λ c κs. search needs) returns returns-2)

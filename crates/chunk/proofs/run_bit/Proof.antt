@@ -8,4 +8,5 @@ returns : tie.Need-returns
 returns c = and-mask (c .args .w / 16384) 1
 
 pub run-bit-spec : {M : Type 1} → statement M
-run-bit-spec = tie.close (tie.spec returns)
+run-bit-spec =
+    tie.close (tie.spec returns)

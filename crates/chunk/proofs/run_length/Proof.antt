@@ -7,4 +7,5 @@ returns : tie.Need-returns
 returns c = and-mask (c .args .w) 14
 
 pub run-length-spec : {M : Type 1} → statement M
-run-length-spec = tie.close (tie.spec returns)
+run-length-spec =
+    tie.close (tie.spec returns)

@@ -8,4 +8,5 @@ returns : tie.Need-returns
 returns c = or-shifted 1 14 (c .args .n) (omega arith)
 
 pub run-word-spec : {M : Type 1} → statement M
-run-word-spec = tie.close (tie.spec returns)
+run-word-spec =
+    tie.close (tie.spec returns)

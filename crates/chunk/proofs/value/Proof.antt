@@ -6,21 +6,14 @@ use Rattle.chunk.proofs.ChunkLaws.{value-run, value-vector}
 use Rattle.chunk.proofs.value.Statement.{statement}
 use Rattle.chunk.proofs.value.Tie as tie
 
-kind-bit-requires : tie.Need-kind-bit-requires
-kind-bit-requires c κs = search needs
-
-run-bit-requires : tie.Need-run-bit-requires
-run-bit-requires c κs = search needs
-
-place-bit-requires : tie.Need-place-bit-requires
-place-bit-requires c κs = search needs
-
 returns : tie.Need-returns
-returns c = let a = c .before .before .before .args in c .run-bit .ensures ∙ sym (value-run (a .w) (a .q) (omega arith))
+returns c = let a = c .before .before .before .args in
+    c .run-bit .ensures ∙ sym (value-run (a .w) (a .q) (omega arith))
 
 returns-2 : tie.Need-returns-2
-returns-2 c = let a = c .before .before .before .args in c .place-bit .ensures ∙ sym (value-vector (a .w) (a .q) (omega arith))
+returns-2 c = let a = c .before .before .before .args in
+    c .place-bit .ensures ∙ sym (value-vector (a .w) (a .q) (omega arith))
 
 pub value-spec : {M : Type 1} → statement M
 value-spec =
-    tie.close (tie.spec kind-bit-requires run-bit-requires place-bit-requires returns returns-2)
+    tie.close (tie.spec (λ c κs. search needs) (λ c κs. search needs) (λ c κs. search needs) returns returns-2)

@@ -7,4 +7,5 @@ returns : tie.Need-returns
 returns c = and-mask (c .args .w) 15
 
 pub vector-bits-spec : {M : Type 1} → statement M
-vector-bits-spec = tie.close (tie.spec returns)
+vector-bits-spec =
+    tie.close (tie.spec returns)

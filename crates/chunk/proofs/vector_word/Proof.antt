@@ -8,4 +8,5 @@ returns : tie.Need-returns
 returns c = or-shifted 1 15 (c .args .v) (omega arith)
 
 pub vector-word-spec : {M : Type 1} → statement M
-vector-word-spec = tie.close (tie.spec returns)
+vector-word-spec =
+    tie.close (tie.spec returns)

@@ -1,56 +1,23 @@
 -- `chunk::word_of` meets its contract: one law for each kind and each side of its limit. Assumes nothing.
 use mathlib.Core.Path.{sym, ap, _∙_}
 use borrow.Author.Needs.{needs}
-use Rattle.chunk.proofs.ChunkLaws.{word-null, word-skip, word-run, word-vector, word-skip-over, word-run-over, word-vector-over}
+use Rattle.chunk.proofs.ChunkLaws.{word-null, word-skip, word-run, word-vector}
+use Rattle.chunk.proofs.ChunkLaws.{word-skip-over, word-run-over, word-vector-over}
 use Rattle.def_standard.specs.Chunks.{wordOf}
 use Rattle.def_standard.specs.declared.MadeWord.the-variants.{Word}
 use Rattle.chunk.proofs.word_of.Statement.{statement}
 use Rattle.chunk.proofs.word_of.Tie as tie
 
-enum-told : tie.Need-enum-told
-enum-told c = search needs
-
-enum-known-c : tie.Need-enum-known-c
-enum-known-c c = search needs
-
-cast-t8 : tie.Need-cast-t8
-cast-t8 c = search needs
-
-cast-t9 : tie.Need-cast-t9
-cast-t9 c = search needs
-
-enum-known-c-2 : tie.Need-enum-known-c-2
-enum-known-c-2 c = search needs
-
-cast-run-word : tie.Need-cast-run-word
-cast-run-word c = search needs
-
-run-word-requires : tie.Need-run-word-requires
-run-word-requires c κs = search needs
-
-cast-t15 : tie.Need-cast-t15
-cast-t15 c = search needs
-
-enum-known-c-3 : tie.Need-enum-known-c-3
-enum-known-c-3 c = search needs
-
-cast-vector-word : tie.Need-cast-vector-word
-cast-vector-word c = search needs
-
-vector-word-requires : tie.Need-vector-word-requires
-vector-word-requires c κs = search needs
-
-cast-t21 : tie.Need-cast-t21
-cast-t21 c = search needs
-
 returns : tie.Need-returns
 returns c = sym (ap wordOf (c .enum-told .given .1) ∙ word-null)
 
 returns-2 : tie.Need-returns-2
-returns-2 c = let k = c .before .before in sym (ap wordOf (k .c .given .1) ∙ word-skip (k .c .given .0 .0) (c .if1 .taken))
+returns-2 c = let k = c .before .before in
+    sym (ap wordOf (k .c .given .1) ∙ word-skip (k .c .given .0 .0) (c .if1 .taken))
 
 returns-3 : tie.Need-returns-3
-returns-3 c = let k = c .before .before in sym (ap wordOf (k .c .given .1) ∙ word-skip-over (k .c .given .0 .0) (c .if1 .left))
+returns-3 c = let k = c .before .before in
+    sym (ap wordOf (k .c .given .1) ∙ word-skip-over (k .c .given .0 .0) (c .if1 .left))
 
 returns-4 : tie.Need-returns-4
 returns-4 c = let t = c .before in
@@ -58,36 +25,22 @@ returns-4 c = let t = c .before in
     ap Word (c .run-word .ensures) ∙ sym (ap wordOf (k .c2 .given .1) ∙ word-run (k .c2 .given .0 .0) (t .if2 .taken))
 
 returns-5 : tie.Need-returns-5
-returns-5 c = let k = c .before .before in sym (ap wordOf (k .c2 .given .1) ∙ word-run-over (k .c2 .given .0 .0) (c .if2 .left))
+returns-5 c = let k = c .before .before in
+    sym (ap wordOf (k .c2 .given .1) ∙ word-run-over (k .c2 .given .0 .0) (c .if2 .left))
 
 returns-6 : tie.Need-returns-6
 returns-6 c = let t = c .before in
     let k = t .before .before in
-    ap Word (c .vector-word .ensures) ∙ sym (ap wordOf (k .c3 .given .1) ∙ word-vector (k .c3 .given .0 .0) (t .if3 .taken))
+    ap Word (c .vector-word .ensures)
+    ∙ sym (ap wordOf (k .c3 .given .1) ∙ word-vector (k .c3 .given .0 .0) (t .if3 .taken))
 
 returns-7 : tie.Need-returns-7
-returns-7 c = let k = c .before .before in sym (ap wordOf (k .c3 .given .1) ∙ word-vector-over (k .c3 .given .0 .0) (c .if3 .left))
+returns-7 c = let k = c .before .before in
+    sym (ap wordOf (k .c3 .given .1) ∙ word-vector-over (k .c3 .given .0 .0) (c .if3 .left))
 
 pub word-of-spec : {M : Type 1} → statement M
 word-of-spec =
     tie.close
-    (tie.spec
-    enum-told
-    enum-known-c
-    cast-t8
-    cast-t9
-    enum-known-c-2
-    cast-run-word
-    run-word-requires
-    cast-t15
-    enum-known-c-3
-    cast-vector-word
-    vector-word-requires
-    cast-t21
-    returns
-    returns-2
-    returns-3
-    returns-4
-    returns-5
-    returns-6
-    returns-7)
+    (tie.spec (λ c. search needs) (λ c. search needs) (λ c. search needs) (λ c. search needs) (λ c. search needs)
+    (λ c. search needs) (λ c κs. search needs) (λ c. search needs) (λ c. search needs) (λ c. search needs)
+    (λ c κs. search needs) (λ c. search needs) returns returns-2 returns-3 returns-4 returns-5 returns-6 returns-7)

@@ -6,12 +6,12 @@ use Rattle.cursor.proofs.LegalLaws.{legal-position, legal-place}
 use Rattle.cursor.specs.Steps.{placesIn, movedIn}
 use Rattle.def_cursor.specs.Cursor.{stepsIn, wordAt, listedBy}
 use Rattle.def_cursor.specs.declared.Cursor.{Cursor}
-use Rattle.rle.proofs.Writing.{wrote}
+use Rattle.rle.proofs.ListingLaws.{fitting-all}
 use Rattle.range.specs.Inside.{insideCount}
 use Rattle.range.specs.Steps.{stepOf}
 use Rattle.rle.specs.Along.{along}
-use Rattle.laws.proofs.Stores.{Wrote}
-use Rattle.laws.proofs.Filling.{Filling, start, room-for}
+use Rattle.laws.specs.Stores.{Wrote}
+use Rattle.laws.proofs.Filling.{Filling, start, room-for, wrote}
 use Rattle.utils.proofs.BytesLaws.{length-pairUp}
 use Rattle.def_standard.specs.Range.{numberOf}
 use Rattle.def_wire.specs.Bytes.{words16}
@@ -20,7 +20,7 @@ use borrow.Author.Needs.{needs}
 use native.Mathlib.Omega.{arith}
 use native.Mathlib.Nat.{one-mul}
 use mathlib.Core.List.{List, _++_}
-use mathlib.Core.Path.{_≡_, refl, ap, _∙_}
+use mathlib.Core.Path.{_≡_, ap, _∙_}
 use Prim.Native.Nat.{ℕ, _+_, _-_, _^_, min, _≤_, _<_}
 use Rattle.cursor.proofs.go.Statement.{statement}
 use Rattle.cursor.proofs.go.Tie as tie
@@ -103,9 +103,12 @@ asked c k e = let r = c .before in let m = r .before .before in let l = head m i
     along-same (l .loop .at .place) (stepped l) (c .number-at .ensures) (m .before .before .before .word-at .ensures)
     (inner r ∙ ap (λ (n : ℕ). min n (insideCount (entry l .args .g) - l .loop .at .position)) e)
 
-stored : (c : tie.After-store-places Inv-loop μ-loop) (k : ℕ) → let m = c .before .before .before .before .before in let l = head m in m .lesser .result ≡ k
-    → Wrote (l .loop .out) (l .loop .n) (added l k) (c .store-places .last .0) (c .store-places .result)
-stored c k e = rw (← asked (c .before .before) k e) (c .store-places .ensures)
+stored : (c : tie.After-put-places Inv-loop μ-loop) (k : ℕ) → let m = c .before .before .before .before .before in
+    let l = head m in m .lesser .result ≡ k → l .loop .n + length (added l k) ≤ length (l .loop .out)
+    → Wrote (l .loop .out) (l .loop .n) (added l k) (c .put-places .last .0) (c .put-places .result)
+stored c k e h = let l = head (c .before .before .before .before .before) in
+    rw (← fitting-all (length (l .loop .out)) (l .loop .n) (added l k) h, ← asked (c .before .before) k e)
+    (c .put-places .ensures)
 
 doubled-requires : tie.Need-doubled-requires Inv-loop μ-loop
 doubled-requires c κs = search needs
@@ -149,14 +152,8 @@ lesser-requires-2 c κs = search needs
 number-at-requires : tie.Need-number-at-requires Inv-loop μ-loop
 number-at-requires c κs = search needs
 
-store-places-requires : tie.Need-store-places-requires Inv-loop μ-loop
-store-places-requires c κs = let r = c .before .before in
-    let m = r .before .before in
-    let e = m .before .before .before .before in
-    let l = head m in
-    let k : m .lesser .result ≡ min (l .loop .left) (takes l) = counted m in
-    let w : m .before .before .before .word-at .result ≡ word l = m .before .before .before .word-at .ensures in
-    (rw w (omega (arith, inner r, k, placed e)), rw (asked (c .before) (m .lesser .result) refl) (room-for (added l (m .lesser .result)) _ (turn e (m .lesser .result) (omega arith) (omega arith)) (l .loop .inv .1)))
+put-places-requires : tie.Need-put-places-requires Inv-loop μ-loop
+put-places-requires c κs = search needs
 
 moved-requires : tie.Need-moved-requires Inv-loop μ-loop
 moved-requires c κs = let m = c .before .before .before .before .before .before .before .before in
@@ -177,8 +174,11 @@ returns-2 c = let t = c .before in
     let f : l .loop .left ≤ takes l = omega (arith, t .if2 .taken, steps (m .before .before)) in
     let k : m .lesser .result ≡ l .loop .left = omega (arith, counted m, f) in
     let n : c .moved .result ≡ next l (l .loop .left) = c .moved .ensures ∙ ap (λ (v : ℕ). movedIn v (l .loop .left) (l .loop .at)) (m .before .before .before .word-at .ensures) in
+    let s = turn e (l .loop .left) (omega arith) f in
+    let i = l .loop .inv .1 in
     rw n
-    (gone-done (goes e (l .loop .left) (omega arith) f) (entry l .args .g) (wrote (turn e (l .loop .left) (omega arith) f) (stored p (l .loop .left) k) (l .loop .inv .1)) (omega arith))
+    (gone-done (goes e (l .loop .left) (omega arith) f) (entry l .args .g)
+    (wrote s (stored p (l .loop .left) k (room-for (added l (l .loop .left)) _ s i)) i) (omega arith))
 
 moved-requires-2 : tie.Need-moved-requires-2 Inv-loop μ-loop
 moved-requires-2 c κs = let m = c .before .before .before .before .before .before .before .before in
@@ -202,8 +202,9 @@ loop-again c = let t = c .before in
     let q : a ≡ takes l = ap (λ (n : ℕ). n - l .loop .at .place) (steps (m .before .before)) in
     let k : m .lesser .result ≡ a = omega (arith, counted m, t .if2 .left, q) in
     let n : c .moved2 .result ≡ next l a = c .moved2 .ensures ∙ ap (λ (v : ℕ). movedIn v a (l .loop .at)) (m .before .before .before .word-at .ensures) in
-    rw n
-    (goes e a (t .if2 .left) (omega arith), wrote (turn e a (t .if2 .left) (omega arith)) (stored p a k) (l .loop .inv .1))
+    let s = turn e a (t .if2 .left) (omega arith) in
+    let i = l .loop .inv .1 in
+    rw n (goes e a (t .if2 .left) (omega arith), wrote s (stored p a k (room-for (added l a) _ s i)) i)
 
 same-length-3 : tie.Need-same-length-3 Inv-loop μ-loop
 same-length-3 c = search needs
@@ -230,7 +231,7 @@ go-spec =
     above-requires
     lesser-requires-2
     number-at-requires
-    store-places-requires
+    put-places-requires
     moved-requires
     same-length-2
     returns-2

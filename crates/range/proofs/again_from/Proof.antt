@@ -4,9 +4,6 @@ use borrow.Author.Needs.{needs}
 use Rattle.range.proofs.again_from.Statement.{statement}
 use Rattle.range.proofs.again_from.Tie as tie
 
-sub-result : tie.Need-sub-result
-sub-result c = search needs
-
 returns : tie.Need-returns
 returns c = simp (lt-ltb _ _ (c .if1 .taken))
 
@@ -14,4 +11,5 @@ returns-2 : tie.Need-returns-2
 returns-2 c = simp (le-ltb _ _ (c .if1 .left))
 
 pub again-from-spec : {M : Type 1} → statement M
-again-from-spec = tie.close (tie.spec sub-result returns returns-2)
+again-from-spec =
+    tie.close (tie.spec (λ c. search needs) returns returns-2)

@@ -10,19 +10,13 @@ use Rattle.range.proofs.ceil_shift.Statement.{statement}
 use Rattle.range.proofs.ceil_shift.Tie as tie
 
 returns : tie.Need-returns
-returns c = sym (ceil-zero (c .before .args .a) (2 ^ c .before .args .t) (pow-pos (c .before .args .t)) (c .if1 .taken))
+returns c = let a = c .before .args in sym (ceil-zero (a .a) (2 ^ a .t) (pow-pos (a .t)) (c .if1 .taken))
 
 returns-2 : tie.Need-returns-2
 returns-2 c = let a = c .before .before .args in
     let far : 2 ^ 64 ≤ 2 ^ a .t = pow-mono (c .if2 .taken) in
     let low : a .a - 1 < 2 ^ a .t = omega arith in
     sym (ceil-pos (a .a) (2 ^ a .t) (pow-pos (a .t)) (omega arith) ∙ (rw (div-eq-of-lt low)))
-
-sub-result : tie.Need-sub-result
-sub-result c = search needs
-
-shr-result : tie.Need-shr-result
-shr-result c = search needs
 
 add-result : tie.Need-add-result
 add-result c = let a = c .before .before .args in omega (arith, shr-le (a .a - 1) (a .t))
@@ -31,4 +25,5 @@ returns-3 : tie.Need-returns-3
 returns-3 c = let a = c .before .before .args in sym (ceil-pos (a .a) (2 ^ a .t) (pow-pos (a .t)) (omega arith))
 
 pub ceil-shift-spec : {M : Type 1} → statement M
-ceil-shift-spec = tie.close (tie.spec returns returns-2 sub-result shr-result add-result returns-3)
+ceil-shift-spec =
+    tie.close (tie.spec returns returns-2 (λ c. search needs) (λ c. search needs) add-result returns-3)

@@ -6,14 +6,10 @@ use Rattle.range.proofs.SequenceLaws.{doubledOf-wide}
 use Rattle.range.proofs.doubled.Statement.{statement}
 use Rattle.range.proofs.doubled.Tie as tie
 
-times-two-to-requires : tie.Need-times-two-to-requires
-times-two-to-requires c κs = search needs
-
-cast-result : tie.Need-cast-result
-cast-result c = search needs
-
 returns : tie.Need-returns
-returns c = let a = c .before .args in ap (λ (n : ℕ). n % 65536) (c .times-two-to .ensures) ∙ doubledOf-wide (a .x) (a .t)
+returns c = let a = c .before .args in
+    ap (λ (n : ℕ). n % 65536) (c .times-two-to .ensures) ∙ doubledOf-wide (a .x) (a .t)
 
 pub doubled-spec : {M : Type 1} → statement M
-doubled-spec = tie.close (tie.spec times-two-to-requires cast-result returns)
+doubled-spec =
+    tie.close (tie.spec (λ c κs. search needs) (λ c. search needs) returns)

@@ -4,12 +4,10 @@ use borrow.Author.Needs.{needs}
 use Rattle.range.proofs.inside_count.Statement.{statement}
 use Rattle.range.proofs.inside_count.Tie as tie
 
-ceil-shift-requires : tie.Need-ceil-shift-requires
-ceil-shift-requires c κs = search needs
-
 returns : tie.Need-returns
 unfolding insideCount
 returns c = c .ceil-shift .ensures
 
 pub inside-count-spec : {M : Type 1} → statement M
-inside-count-spec = tie.close (tie.spec ceil-shift-requires returns)
+inside-count-spec =
+    tie.close (tie.spec (λ c κs. search needs) returns)

@@ -7,18 +7,6 @@ use borrow.Author.Needs.{needs}
 use Rattle.range.proofs.number_at.Statement.{statement}
 use Rattle.range.proofs.number_at.Tie as tie
 
-cast-result : tie.Need-cast-result
-cast-result c = search needs
-
-times-two-to-requires : tie.Need-times-two-to-requires
-times-two-to-requires c κs = search needs
-
-add-result : tie.Need-add-result
-add-result c = search needs
-
-cast-result-2 : tie.Need-cast-result-2
-cast-result-2 c = search needs
-
 returns : tie.Need-returns
 unfolding numberOf offsetOf
 returns c = let a = c .before .args in
@@ -27,4 +15,4 @@ returns c = let a = c .before .args in
 
 pub number-at-spec : {M : Type 1} → statement M
 number-at-spec =
-    tie.close (tie.spec cast-result times-two-to-requires add-result cast-result-2 returns)
+    tie.close (tie.spec (λ c. search needs) (λ c κs. search needs) (λ c. search needs) (λ c. search needs) returns)

@@ -17,4 +17,5 @@ returns-4 : tie.Need-returns-4
 returns-4 c = sym (passes-ahead _ _ _ (c .if1 .left))
 
 pub passes-spec : {M : Type 1} → statement M
-passes-spec = tie.close (tie.spec returns returns-2 returns-3 returns-4)
+passes-spec =
+    tie.close (tie.spec returns returns-2 returns-3 returns-4)

@@ -9,21 +9,11 @@ returns : tie.Need-returns
 unfolding rangeOf
 returns c = simp (eq-eqb _ _ (c .if1 .taken))
 
-cast-size : tie.Need-cast-size
-cast-size c = search needs
-
-add-size : tie.Need-add-size
-add-size c = search needs
-
-cast-size-2 : tie.Need-cast-size-2
-cast-size-2 c = search needs
-
-sub-size : tie.Need-sub-size
-sub-size c = search needs
-
 returns-2 : tie.Need-returns-2
 unfolding rangeOf
 returns-2 c = simp (ne-eqb _ _ (c .if1 .left))
 
 pub range-of-spec : {M : Type 1} → statement M
-range-of-spec = tie.close (tie.spec returns cast-size add-size cast-size-2 sub-size returns-2)
+range-of-spec =
+    tie.close
+    (tie.spec returns (λ c. search needs) (λ c. search needs) (λ c. search needs) (λ c. search needs) returns-2)

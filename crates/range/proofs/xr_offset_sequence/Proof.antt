@@ -7,20 +7,13 @@ use Rattle.range.proofs.xr_offset_sequence.Statement.{statement}
 use Rattle.range.proofs.xr_offset_sequence.Tie as tie
 
 -- the number that is tested is the definition's
-sum : (c : tie.After-passes) → let a = c .before .before .before .args in c .before .wrapping-add-u16 .result ≡ sequenceOf (a .seq) (a .start) (a .thinning)
+sum : (c : tie.After-passes) → let a = c .before .before .before .args in
+    c .before .wrapping-add-u16 .result ≡ sequenceOf (a .seq) (a .start) (a .thinning)
 sum c = rw (← c .before .before .doubled .ensures) (c .before .wrapping-add-u16 .ensures)
 
-tested : (c : tie.After-passes) → let a = c .before .before .before .args in passes (a .start) (a .end) (sequenceOf (a .seq) (a .start) (a .thinning)) ≡ c .passes .result
+tested : (c : tie.After-passes) → let a = c .before .before .before .args in
+    passes (a .start) (a .end) (sequenceOf (a .seq) (a .start) (a .thinning)) ≡ c .passes .result
 tested c = rw (← sum c) (sym (c .passes .ensures))
-
-doubled-requires : tie.Need-doubled-requires
-doubled-requires c κs = search needs
-
-wrapping-add-u16-requires : tie.Need-wrapping-add-u16-requires
-wrapping-add-u16-requires c κs = search needs
-
-passes-requires : tie.Need-passes-requires
-passes-requires c κs = search needs
 
 returns : tie.Need-returns
 returns c = let p = c .before in
@@ -34,5 +27,4 @@ returns-2 c = let p = c .before in
 
 pub xr-offset-sequence-spec : {M : Type 1} → statement M
 xr-offset-sequence-spec =
-    tie.close
-    (tie.spec doubled-requires wrapping-add-u16-requires passes-requires returns returns-2)
+    tie.close (tie.spec (λ c κs. search needs) (λ c κs. search needs) (λ c κs. search needs) returns returns-2)

@@ -1,25 +1,35 @@
--- `rle::count_standard` meets its contract: what is counted and what is still to be listed make up the whole, for every range with as many positions inside. Assumes nothing.
+-- `rle::count_standard` meets its contract: what is counted and what is still to be listed make up the whole, for
+-- every range with as many positions inside. Assumes nothing.
 use Prim.Native.Nat.{ℕ, _+_, _-_, _≤_, _<_}
 use mathlib.Core.Path.{_≡_, ap, _∙_}
+use mathlib.Core.List.{List}
 use native.Mathlib.Omega.{arith}
 use borrow.Author.Needs.{needs}
+use borrow.Author.Tests.{le-leb, lt-leb}
+use lib.Dec.{leb}
 use lib.ListN.{length}
+use Rattle.laws.proofs.Filling.{Counting}
 use Rattle.def_wire.specs.Bytes.{words16, be16}
 use Rattle.def_standard.specs.declared.Range.{Range}
 use Rattle.def_standard.specs.Chunks.{coversOf}
+use Rattle.def_standard.specs.Range.{numberOf}
 use Rattle.def_standard.specs.Standard.{numbersOf}
 use Rattle.range.specs.Inside.{insideCount}
 use Rattle.range.proofs.InsideLaws.{inside-count-le}
 use Rattle.rle.proofs.NumbersLaws.{length-numbers}
-use Rattle.chunk.specs.Ones.{onesBefore}
-use Rattle.rle.proofs.StandardTurn.{here, here-start, here-end, count-room, count-last, count-next}
+use Rattle.rle.proofs.WordLaws.{length-ones}
+use Rattle.rle.proofs.Turn.{Turn, count-room, count-last, count-next}
+use Rattle.rle.proofs.StandardTurn.{here, added, here-start, here-end, count-turn}
 use Rattle.rle.proofs.count_standard.Statement.{statement}
 use Rattle.rle.proofs.count_standard.Tie as tie
 
+-- n are counted of a range that has `left` positions inside from here on
+abbrev Counts : Range → List ℕ → ℕ → ℕ → ℕ → Type 0
+Counts g bytes left at n = (left ≤ insideCount g) × Counting (numbersOf g (words16 bytes)) (here g bytes at left) n
+
 abbrev Inv-loop : tie.InvT-loop
 Inv-loop bytes left₀ at₀ n₀ left at n =
-    (at ≤ length bytes)
-    × ((g : Range) → left₀ ≡ insideCount g → (left ≤ insideCount g) × (n + length (here g bytes at left) ≡ length (numbersOf g (words16 bytes))))
+    (at ≤ length bytes) × ((g : Range) → left₀ ≡ insideCount g → Counts g bytes left at n)
 
 abbrev μ-loop : tie.MeasureT-loop
 μ-loop bytes left₀ at₀ n₀ left at n = length bytes - at
@@ -32,112 +42,65 @@ entry l = l .before .before .before
 abbrev word : tie.At-loop Inv-loop μ-loop → ℕ
 word l = be16 (entry l .args .bytes .now) (l .loop .at)
 
--- as many are counted as it adds
-more : (c : tie.After-ones-before Inv-loop μ-loop)
-    → let l = c .before .before .before .before .before in c .ones-before .result ≡ length (onesBefore (word l) (l .loop .left))
-more c = let l = c .before .before .before .before .before in
-    c .ones-before .ensures ∙ ap (λ (w : ℕ). length (onesBefore w (l .loop .left))) (c .before .pair .ensures)
-
--- the range's own invariant
-own : (l : tie.At-loop Inv-loop μ-loop) → let g = entry l .args .g in
-    (l .loop .left ≤ insideCount g) × (l .loop .n + length (here g (entry l .args .bytes .now) (l .loop .at) (l .loop .left)) ≡ length (numbersOf g (words16 (entry l .args .bytes .now))))
+-- the range's own count
+own : (l : tie.At-loop Inv-loop μ-loop) → let a = entry l .args in
+    Counts (a .g) (a .bytes .now) (l .loop .left) (l .loop .at) (l .loop .n)
 own l = l .loop .inv .1 (entry l .args .g) (l .before .inside-count .ensures)
 
-inside-count-requires : tie.Need-inside-count-requires Inv-loop μ-loop
-inside-count-requires c κs = search needs
+-- the word's turn, and as many as it adds
+module _ (c : tie.After-ones-before Inv-loop μ-loop) (g : Range) where
+  abbrev head : tie.At-loop Inv-loop μ-loop
+  head = c .before .before .before .before .before
+
+  abbrev numbers : List ℕ
+  numbers = added g (word head) (head .loop .left) (numberOf g (insideCount g - head .loop .left))
+
+  here-turn : let l = head .loop in let b = entry head .args .bytes .now in l .left ≤ insideCount g
+      → Turn (here g b (l .at) (l .left)) numbers (leb (l .left) (coversOf (word head)))
+      (here g b (l .at + 2) (l .left - coversOf (word head)))
+  here-turn low = let t = c .before .before .before .before .loop-test .taken in
+      count-turn g (entry head .args .bytes .now) (head .loop .at) (head .loop .left) low (omega (arith, t))
+
+  more : c .ones-before .result ≡ length numbers
+  more = let p = c .before .pair in
+      rw (← p .ensures) (c .ones-before .ensures ∙ length-ones _ _ (head .loop .left) (p .result))
 
 loop-holds : tie.Need-loop-holds Inv-loop μ-loop
-loop-holds c = (omega arith, λ g e. (omega (arith, e), rw (e, ← here-start g (c .before .before .args .bytes .now)) (omega arith)))
-
-add-loop : tie.Need-add-loop Inv-loop μ-loop
-add-loop c = search needs
-
-shared-slice-read-pair : tie.Need-shared-slice-read-pair Inv-loop μ-loop
-shared-slice-read-pair c = search needs
-
-add-pair : tie.Need-add-pair Inv-loop μ-loop
-add-pair c = search needs
-
-shared-slice-read-pair-2 : tie.Need-shared-slice-read-pair-2 Inv-loop μ-loop
-shared-slice-read-pair-2 c = search needs
-
-pair-requires : tie.Need-pair-requires Inv-loop μ-loop
-pair-requires c κs = search needs
-
-ones-before-requires : tie.Need-ones-before-requires Inv-loop μ-loop
-ones-before-requires c κs = search needs
+loop-holds c = let b = c .before .before .args .bytes .now in
+    (omega arith, λ g e. (omega (arith, e), rw (e, ← here-start g b) (record { count = omega arith })))
 
 add-n : tie.Need-add-n Inv-loop μ-loop
 add-n c = let l = c .before .before .before .before .before in
-    let s = entry l in
-    let g = s .args .g in
-    let k = count-room g (s .args .bytes .now) (l .loop .at) (l .loop .left) (own l .0) (omega (arith, c .before .before .before .before .loop-test .taken)) (l .loop .n) (c .ones-before .result) (length (numbersOf g (words16 (s .args .bytes .now)))) (more c) (own l .1) in
-    omega (arith, k, length-numbers g (words16 (s .args .bytes .now)), inside-count-le g)
-
-covers-requires : tie.Need-covers-requires Inv-loop μ-loop
-covers-requires c κs = search needs
-
-cast-covered : tie.Need-cast-covered Inv-loop μ-loop
-cast-covered c = search needs
+    let g = entry l .args .g in
+    let k = count-room (here-turn c g (own l .0)) (own l .1) (more c g) in
+    omega (arith, k, length-numbers g (words16 (entry l .args .bytes .now)), inside-count-le g)
 
 returns : tie.Need-returns Inv-loop μ-loop
 returns c = let o = c .before .before in
     let l = o .before .before .before .before .before in
-    let s = entry l in
-    let g = s .args .g in
-    let e : l .loop .left ≤ coversOf (word l) = rw (← o .before .pair .ensures, ← c .before .covers .ensures) (c .if1 .taken) in
-    count-last g (s .args .bytes .now) (l .loop .at) (l .loop .left) (own l .0) (omega (arith, o .before .before .before .before .loop-test .taken)) (l .loop .n) (o .ones-before .result) (length (numbersOf g (words16 (s .args .bytes .now)))) (more o) (own l .1) e
-
-sub-left : tie.Need-sub-left Inv-loop μ-loop
-sub-left c = search needs
-
-add-at : tie.Need-add-at Inv-loop μ-loop
-add-at c = search needs
-
-loop-less : tie.Need-loop-less Inv-loop μ-loop
-loop-less c = search needs
+    let g = entry l .args .g in
+    let e = rw (c .before .covers .ensures, o .before .pair .ensures) at (c .if1 .taken) in
+    count-last (here-turn o g (own l .0)) (own l .1) (more o g) (le-leb _ _ e)
 
 loop-again : tie.Need-loop-again Inv-loop μ-loop
 loop-again c = let o = c .before .before in
     let l = o .before .before .before .before .before in
-    let s = entry l in
-    let cov : c .before .covers .result ≡ coversOf (word l) = c .before .covers .ensures ∙ ap coversOf (o .before .pair .ensures) in
-    let e : coversOf (word l) < l .loop .left = rw (← cov) (c .if1 .left) in (
+    let cov = c .before .covers .ensures ∙ ap coversOf (o .before .pair .ensures) in
+    let e : coversOf (word l) < l .loop .left = rw cov at (c .if1 .left) in (
       omega arith,
-      λ g z. let i = l .loop .inv .1 g z in (
-        omega (arith, i .0),
-        rw cov
-            (count-next g (s .args .bytes .now) (l .loop .at) (l .loop .left) (i .0) (omega (arith, o .before .before .before .before .loop-test .taken)) (l .loop .n) (o .ones-before .result) (length (numbersOf g (words16 (s .args .bytes .now)))) (more o) (i .1) e),
-      ),
+      λ g z. let i = l .loop .inv .1 g z in
+          (omega (arith, i .0), rw cov (count-next (here-turn o g (i .0)) (i .1) (more o g) (lt-leb _ _ e))),
     )
 
 returns-2 : tie.Need-returns-2 Inv-loop μ-loop
 returns-2 c = let l = c .before in
-    let s = entry l in
-    let g = s .args .g in
-    let k = here-end g (s .args .bytes .now) (l .loop .at) (l .loop .left) (omega (arith, c .loop-test .left)) in
-    omega (arith, ap length k, own l .1)
+    let a = entry l .args in
+    let k = here-end (a .g) (a .bytes .now) (l .loop .at) (l .loop .left) (omega (arith, c .loop-test .left)) in
+    omega (arith, ap length k, own l .1 .count)
 
 pub count-standard-spec : {M : Type 1} → statement M
 count-standard-spec =
     tie.close
-    (tie.spec
-    Inv-loop
-    μ-loop
-    inside-count-requires
-    loop-holds
-    add-loop
-    shared-slice-read-pair
-    add-pair
-    shared-slice-read-pair-2
-    pair-requires
-    ones-before-requires
-    add-n
-    covers-requires
-    cast-covered
-    returns
-    sub-left
-    add-at
-    loop-less
-    loop-again
-    returns-2)
+    (tie.spec Inv-loop μ-loop (λ c κs. search needs) loop-holds (λ c. search needs) (λ c. search needs)
+    (λ c. search needs) (λ c. search needs) (λ c κs. search needs) (λ c κs. search needs) add-n (λ c κs. search needs)
+    (λ c. search needs) returns (λ c. search needs) (λ c. search needs) (λ c. search needs) loop-again returns-2)

@@ -8,4 +8,5 @@ returns : tie.Need-returns
 returns c = sym (length-pairUp 256 (c .args .bytes .now))
 
 pub count-words-spec : {M : Type 1} → statement M
-count-words-spec = tie.close (tie.spec returns)
+count-words-spec =
+    tie.close (tie.spec returns)

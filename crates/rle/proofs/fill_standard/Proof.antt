@@ -1,4 +1,5 @@
--- `rle::fill_standard` meets its contract: there is room for all that are inside, or for as many as were counted; else it is refused. Assumes nothing.
+-- `rle::fill_standard` meets its contract: there is room for all that are inside, or for as many as were counted; else
+-- it is refused. Assumes nothing.
 use Rattle.rle.proofs.NumbersLaws.{length-numbers}
 use Rattle.laws.proofs.Answering.{listed, full}
 use Rattle.def_standard.specs.Standard.{numbersOf}
@@ -14,19 +15,14 @@ use Rattle.rle.proofs.fill_standard.Statement.{statement}
 use Rattle.rle.proofs.fill_standard.Tie as tie
 
 -- there is room: for all that are inside, or for as many as were counted
-room : (c : tie.Joined1) → let a = c .before .before .before .before .args in length (numbersOf (a .g) (words16 (a .bytes .now))) ≤ length (a .out .now)
+room : (c : tie.Joined1) → let a = c .before .before .before .before .args in
+    length (numbersOf (a .g) (words16 (a .bytes .now))) ≤ length (a .out .now)
 room c = let v = c .before in
     let a = v .before .before .before .args in
     ⊎-elim
     (λ w. omega (arith, w .1 .ensures, w .2 .left))
     (λ w. omega (arith, w .left, v .inside-count .ensures, length-numbers (a .g) (words16 (a .bytes .now))))
     (c .if1 .came)
-
-inside-count-requires : tie.Need-inside-count-requires
-inside-count-requires c κs = search needs
-
-count-standard-requires : tie.Need-count-standard-requires
-count-standard-requires c κs = search needs
 
 returns : tie.Need-returns
 returns c = let n = c .before in
@@ -37,23 +33,15 @@ returns c = let n = c .before in
 list-standard-requires : tie.Need-list-standard-requires
 list-standard-requires c κs = room (c .before)
 
-same-length : tie.Need-same-length
-same-length c = search needs
-
 returns-2 : tie.Need-returns-2
 returns-2 c = let r = c .before .before in
     let j = r .before .before in
     let a = j .before .before .before .before .args in
     let whole = numbersOf (a .g) (words16 (a .bytes .now)) in
-    listed (shown whole) (a .out .now) whole _ _ refl (r .list-standard .ensures .0) (room j) (r .list-standard .ensures .1)
+    listed (shown whole) (a .out .now) whole _ _ refl (room j) (r .list-standard .ensures)
 
 pub fill-standard-spec : {M : Type 1} → statement M
 fill-standard-spec =
     tie.close
-    (tie.spec
-    inside-count-requires
-    count-standard-requires
-    returns
-    list-standard-requires
-    same-length
+    (tie.spec (λ c κs. search needs) (λ c κs. search needs) returns list-standard-requires (λ c. search needs)
     returns-2)

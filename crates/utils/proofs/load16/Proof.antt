@@ -3,22 +3,9 @@ use borrow.Author.Needs.{needs}
 use Rattle.utils.proofs.load16.Statement.{statement}
 use Rattle.utils.proofs.load16.Tie as tie
 
-shared-slice-read-pair : tie.Need-shared-slice-read-pair
-shared-slice-read-pair c = search needs
-
-add-pair : tie.Need-add-pair
-add-pair c = search needs
-
-shared-slice-read-pair-2 : tie.Need-shared-slice-read-pair-2
-shared-slice-read-pair-2 c = search needs
-
-pair-requires : tie.Need-pair-requires
-pair-requires c κs = search needs
-
 returns : tie.Need-returns
 returns c = c .pair .ensures
 
 pub load16-spec : {M : Type 1} → statement M
 load16-spec =
-    tie.close
-    (tie.spec shared-slice-read-pair add-pair shared-slice-read-pair-2 pair-requires returns)
+    tie.close (tie.spec (λ c. search needs) (λ c. search needs) (λ c. search needs) (λ c κs. search needs) returns)

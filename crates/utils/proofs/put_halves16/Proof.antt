@@ -8,32 +8,12 @@ use Rattle.def_wire.specs.Bytes.{two}
 use Rattle.utils.proofs.put_halves16.Statement.{statement}
 use Rattle.utils.proofs.put_halves16.Tie as tie
 
-cast-out : tie.Need-cast-out
-cast-out c = search needs
-
-slice-write-out : tie.Need-slice-write-out
-slice-write-out c = search needs
-
-add-next : tie.Need-add-next
-add-next c = search needs
-
-cast-out-2 : tie.Need-cast-out-2
-cast-out-2 c = search needs
-
-slice-write-out-2 : tie.Need-slice-write-out-2
-slice-write-out-2 c = search needs
-
-same-length : tie.Need-same-length
-same-length c = search needs
-
 returns : tie.Need-returns
 returns c = rw add-one
 
-same-length-2 : tie.Need-same-length-2
-same-length-2 c = search needs
-
 returns-2 : tie.Need-returns-2
-returns-2 c = let a = c .before .before .args in sym (sets-last (a .out .now) (a .at) _ _ (simp length-set at (c .if2 .left)))
+returns-2 c = let a = c .before .before .args in
+    sym (sets-last (a .out .now) (a .at) _ _ (simp length-set at (c .if2 .left)))
 
 returns-3 : tie.Need-returns-3
 returns-3 c = let a = c .before .args in sym (sets-out (a .out .now) (a .at) (two (a .x)) (c .if1 .left))
@@ -41,14 +21,5 @@ returns-3 c = let a = c .before .args in sym (sets-out (a .out .now) (a .at) (tw
 pub put-halves16-spec : {M : Type 1} → statement M
 put-halves16-spec =
     tie.close
-    (tie.spec
-    cast-out
-    slice-write-out
-    add-next
-    cast-out-2
-    slice-write-out-2
-    same-length
-    returns
-    same-length-2
-    returns-2
-    returns-3)
+    (tie.spec (λ c. search needs) (λ c. search needs) (λ c. search needs) (λ c. search needs) (λ c. search needs)
+    (λ c. search needs) returns (λ c. search needs) returns-2 returns-3)

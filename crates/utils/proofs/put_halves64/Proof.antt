@@ -6,29 +6,12 @@ use Rattle.def_wire.specs.Bytes.{eight}
 use Rattle.utils.proofs.put_halves64.Statement.{statement}
 use Rattle.utils.proofs.put_halves64.Tie as tie
 
-cast-put32 : tie.Need-cast-put32
-cast-put32 c = search needs
-
-put32-requires : tie.Need-put32-requires
-put32-requires c κs = search needs
-
-add-put32 : tie.Need-add-put32
-add-put32 c = search needs
-
-cast-put32-2 : tie.Need-cast-put32-2
-cast-put32-2 c = search needs
-
-put32-requires-2 : tie.Need-put32-requires-2
-put32-requires-2 c κs = search needs
-
-same-length : tie.Need-same-length
-same-length c = search needs
-
 returns : tie.Need-returns
 returns c = let k = c .before .before in
     let f = k .before .before .before .before in
     let a = f .before .before .before .before .args in
-    sets-eight (a .out .now) (f .put32 .last .0) (k .put322 .last .0) (a .at) (a .x) (f .put32 .ensures) (k .put322 .ensures)
+    sets-eight (a .out .now) (f .put32 .last .0) (k .put322 .last .0) (a .at) (a .x) (f .put32 .ensures)
+    (k .put322 .ensures)
 
 returns-2 : tie.Need-returns-2
 returns-2 c = let a = c .before .before .args in sym (sets-out (a .out .now) (a .at) (eight (a .x)) (c .if1 .left))
@@ -36,12 +19,5 @@ returns-2 c = let a = c .before .before .args in sym (sets-out (a .out .now) (a 
 pub put-halves64-spec : {M : Type 1} → statement M
 put-halves64-spec =
     tie.close
-    (tie.spec
-    cast-put32
-    put32-requires
-    add-put32
-    cast-put32-2
-    put32-requires-2
-    same-length
-    returns
-    returns-2)
+    (tie.spec (λ c. search needs) (λ c κs. search needs) (λ c. search needs) (λ c. search needs) (λ c κs. search needs)
+    (λ c. search needs) returns returns-2)

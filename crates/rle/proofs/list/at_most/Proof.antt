@@ -1,4 +1,4 @@
--- `rle::list::at_most` meets its contract: what is summed and what is still to come make up the whole. Assumes nothing.
+-- `rle::list::at_most` meets its contract: what is summed and what is to come make up the whole. Assumes nothing.
 use Prim.Native.Nat.{_+_, _-_, _≤_}
 use mathlib.Core.Path.{_≡_}
 use native.Mathlib.Omega.{arith}
@@ -18,42 +18,20 @@ abbrev μ-loop : tie.MeasureT-loop
 μ-loop bytes at₀ n₀ at n = length bytes - at
 
 -- the word at hand weighs as much
-next : (c : tie.After-weight Inv-loop μ-loop) → let l = c .before .before .before .before .before in let b = l .before .before .args .bytes .now in
+next : (c : tie.After-weight Inv-loop μ-loop) → let l = c .before .before .before .before .before in
+    let b = l .before .before .args .bytes .now in
     mostOf (words16 (drop (l .loop .at) b)) ≡ c .weight .result + mostOf (words16 (drop (l .loop .at + 2) b))
-next c = let l = c .before .before .before .before .before in let b = l .before .before .args .bytes .now in
-    rw (c .weight .ensures, c .before .pair .ensures) (most-next b (l .loop .at) (c .before .before .before .before .loop-test .taken))
+next c = let i = c .before .before .before .before in
+    rw (c .weight .ensures, c .before .pair .ensures)
+    (most-next (i .before .before .before .args .bytes .now) (i .before .loop .at) (i .loop-test .taken))
 
 loop-holds : tie.Need-loop-holds Inv-loop μ-loop
 loop-holds c = (omega arith, omega arith)
-
-add-loop : tie.Need-add-loop Inv-loop μ-loop
-add-loop c = search needs
-
-shared-slice-read-pair : tie.Need-shared-slice-read-pair Inv-loop μ-loop
-shared-slice-read-pair c = search needs
-
-add-pair : tie.Need-add-pair Inv-loop μ-loop
-add-pair c = search needs
-
-shared-slice-read-pair-2 : tie.Need-shared-slice-read-pair-2 Inv-loop μ-loop
-shared-slice-read-pair-2 c = search needs
-
-pair-requires : tie.Need-pair-requires Inv-loop μ-loop
-pair-requires c κs = search needs
-
-weight-requires : tie.Need-weight-requires Inv-loop μ-loop
-weight-requires c κs = search needs
 
 add-n : tie.Need-add-n Inv-loop μ-loop
 add-n c = let l = c .before .before .before .before .before in
     let s = l .before .before in
     omega (arith, next c, l .loop .inv .1, most-fits (s .args .bytes .now) (s .pre))
-
-add-at : tie.Need-add-at Inv-loop μ-loop
-add-at c = search needs
-
-loop-less : tie.Need-loop-less Inv-loop μ-loop
-loop-less c = search needs
 
 loop-again : tie.Need-loop-again Inv-loop μ-loop
 loop-again c = (omega arith, omega (arith, next c, c .before .before .before .before .before .loop .inv .1))
@@ -71,19 +49,6 @@ returns c = let l = c .before in
 pub at-most-spec : {M : Type 1} → statement M
 at-most-spec =
     tie.close
-    (tie.spec
-    Inv-loop
-    μ-loop
-    loop-holds
-    add-loop
-    shared-slice-read-pair
-    add-pair
-    shared-slice-read-pair-2
-    pair-requires
-    weight-requires
-    add-n
-    add-at
-    loop-less
-    loop-again
-    cast-result
-    returns)
+    (tie.spec Inv-loop μ-loop loop-holds (λ c. search needs) (λ c. search needs) (λ c. search needs)
+    (λ c. search needs) (λ c κs. search needs) (λ c κs. search needs) add-n (λ c. search needs) (λ c. search needs)
+    loop-again cast-result returns)

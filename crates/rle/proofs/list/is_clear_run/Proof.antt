@@ -10,15 +10,9 @@ returns c = rw (lt-leb _ _ (c .if1 .taken))
 returns-2 : tie.Need-returns-2
 returns-2 c = rw (le-leb _ _ (c .before .if1 .left), le-ltb _ _ (c .if2 .taken))
 
-run-length-requires : tie.Need-run-length-requires
-run-length-requires c κs = search needs
-
-cast-result : tie.Need-cast-result
-cast-result c = search needs
-
 returns-3 : tie.Need-returns-3
 returns-3 c = rw (le-leb _ _ (c .before .before .if1 .left), lt-ltb _ _ (c .before .if2 .left), c .run-length .ensures)
 
 pub is-clear-run-spec : {M : Type 1} → statement M
 is-clear-run-spec =
-    tie.close (tie.spec returns returns-2 run-length-requires cast-result returns-3)
+    tie.close (tie.spec returns returns-2 (λ c κs. search needs) (λ c. search needs) returns-3)

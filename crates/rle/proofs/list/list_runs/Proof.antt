@@ -1,11 +1,9 @@
--- `rle::list::list_runs` meets its contract: its invariant is `Ran`, and each need cites a law of one turn. Assumes nothing.
+-- `rle::list::list_runs` meets its contract: its invariant is `Ran`, and needs cite laws of one turn. Assumes nothing.
 use Prim.Native.Nat.{ℕ, _+_, _-_, _%_, _<_}
-use mathlib.Core.Bool.{_&&_}
 use mathlib.Core.Path.{_≡_, sym, ap, _∙_}
 use native.Mathlib.Omega.{arith}
 use borrow.Author.Tests.{not-false}
 use borrow.Author.Needs.{needs}
-use lib.Dec.{ltb, leb}
 use lib.ListN.{length}
 use Rattle.laws.proofs.Stores.{same}
 use Rattle.def_wire.specs.Bytes.{be16}
@@ -37,7 +35,7 @@ word l = be16 (entry l .args .bytes .now) (l .loop .at)
 clear : (e : tie.Else1 Inv-loop μ-loop) → Clear (word (head e)) (head e .loop .first)
 clear e = let k = e .before in
     clear-run (word (head e)) (head e .loop .first)
-    (ap (λ (w : ℕ). leb 16384 w && (ltb w 32768 && leb (w % 16384) (head e .loop .first))) (sym (k .before .pair .ensures)) ∙ sym (k .is-clear-run .ensures) ∙ not-false _ (e .if1 .left))
+    (rw (← k .before .pair .ensures) (sym (k .is-clear-run .ensures) ∙ not-false _ (e .if1 .left)))
 
 more : (e : tie.Else1 Inv-loop μ-loop) → let l = head e in l .loop .at + 1 < length (entry l .args .bytes .now)
 more e = let l = head e in omega (arith, e .before .before .before .before .before .loop-test .taken, entry l .pre .0)
@@ -54,22 +52,9 @@ moved w = let r = w .before .before in let l = head (r .before) in let s = entry
     ∙ past-moved (s .args .thinning) (l .loop .start) (r .run-length .result) (l .loop .inv .small)
 
 loop-holds : tie.Need-loop-holds Inv-loop μ-loop
-loop-holds c = let s = c .before .before in let a = s .args in begun (a .end) (a .thinning) (a .bytes .now) (a .from) (a .begin) (a .out .now) (a .stored) (a .clear) (s .pre .1) (omega arith) (s .pre .2)
-
-shared-slice-read-pair : tie.Need-shared-slice-read-pair Inv-loop μ-loop
-shared-slice-read-pair c = search needs
-
-add-pair : tie.Need-add-pair Inv-loop μ-loop
-add-pair c = search needs
-
-shared-slice-read-pair-2 : tie.Need-shared-slice-read-pair-2 Inv-loop μ-loop
-shared-slice-read-pair-2 c = search needs
-
-pair-requires : tie.Need-pair-requires Inv-loop μ-loop
-pair-requires c κs = search needs
-
-is-clear-run-requires : tie.Need-is-clear-run-requires Inv-loop μ-loop
-is-clear-run-requires c κs = search needs
+loop-holds c = let s = c .before .before in let a = s .args in
+    begun (a .end) (a .thinning) (a .bytes .now) (a .from) (a .begin) (a .out .now) (a .stored) (a .clear) (s .pre .1)
+    (omega arith) (s .pre .2)
 
 same-length : tie.Need-same-length Inv-loop μ-loop
 same-length c = same (c .before .before .before .before .before .before .loop .inv .wrote)
@@ -77,29 +62,16 @@ same-length c = same (c .before .before .before .before .before .before .loop .i
 returns : tie.Need-returns Inv-loop μ-loop
 returns c = c .before .before .before .before .before .before .loop .inv
 
-run-length-requires : tie.Need-run-length-requires Inv-loop μ-loop
-run-length-requires c κs = search needs
-
-cast-store-run : tie.Need-cast-store-run Inv-loop μ-loop
-cast-store-run c = search needs
-
 store-run-requires : tie.Need-store-run-requires Inv-loop μ-loop
 store-run-requires c κs = let r = c .before in
     let e = r .before in
     let l = head e in
     let s = entry l in
     let a = s .args in
-    rw (counted r)
-    (room (a .end) (a .thinning) (a .bytes .now) (a .from) (a .begin) (a .out .now) (a .stored) (l .loop .at) (l .loop .start) (l .loop .first) (l .loop .out) (l .loop .n) (l .loop .inv) (omega arith) (more e) (clear e) (s .pre .4))
+    rw (counted r) (room (l .loop .inv) (omega arith) (more e) (clear e) (s .pre .4))
 
 next-fail-requires : tie.Need-next-fail-requires Inv-loop μ-loop
 next-fail-requires c κs = let w = c .before .before in (head (w .before .before .before) .loop .inv .fails, moved w)
-
-add-at : tie.Need-add-at Inv-loop μ-loop
-add-at c = search needs
-
-loop-less : tie.Need-loop-less Inv-loop μ-loop
-loop-less c = search needs
 
 loop-again : tie.Need-loop-again Inv-loop μ-loop
 loop-again c = let w = c .before .before .before in
@@ -108,8 +80,9 @@ loop-again c = let w = c .before .before .before in
     let l = head e in
     let s = entry l in
     let a = s .args in
-    turned (a .end) (a .thinning) (a .bytes .now) (a .from) (a .begin) (a .out .now) (a .stored) (l .loop .at) (l .loop .start) (l .loop .first) (l .loop .out) (l .loop .n) (l .loop .inv) (omega arith) (more e) (clear e)
-    (w .store-run .last .0) (w .store-run .result .n) (w .store-run .result .next) (c .next-fail .result) (rw (← counted r, ← s .pre .3) (w .store-run .ensures .0)) (moved w ∙ ap (λ (k : ℕ). movedBy k (a .thinning) (l .loop .start)) (counted r)) (c .next-fail .ensures)
+    turned (l .loop .inv) (omega arith) (more e) (clear e)
+    (rw (← counted r, ← s .pre .3) (w .store-run .ensures .0))
+    (moved w ∙ ap (λ (k : ℕ). movedBy k (s .args .thinning) (l .loop .start)) (counted r)) (c .next-fail .ensures)
 
 same-length-2 : tie.Need-same-length-2 Inv-loop μ-loop
 same-length-2 c = same (c .before .loop .inv .wrote)
@@ -120,23 +93,6 @@ returns-2 c = c .before .loop .inv
 pub list-runs-spec : {M : Type 1} → statement M
 list-runs-spec =
     tie.close
-    (tie.spec
-    Inv-loop
-    μ-loop
-    loop-holds
-    shared-slice-read-pair
-    add-pair
-    shared-slice-read-pair-2
-    pair-requires
-    is-clear-run-requires
-    same-length
-    returns
-    run-length-requires
-    cast-store-run
-    store-run-requires
-    next-fail-requires
-    add-at
-    loop-less
-    loop-again
-    same-length-2
-    returns-2)
+    (tie.spec Inv-loop μ-loop loop-holds (λ c. search needs) (λ c. search needs) (λ c. search needs)
+    (λ c κs. search needs) (λ c κs. search needs) same-length returns (λ c κs. search needs) (λ c. search needs)
+    store-run-requires next-fail-requires (λ c. search needs) (λ c. search needs) loop-again same-length-2 returns-2)

@@ -1,26 +1,30 @@
--- `rle::list::list_standard` meets its contract: the loop fills from the front, with `left` positions still inside. Assumes nothing.
-use Prim.Native.Nat.{ℕ, _-_, _^_, _≤_, _<_}
+-- `rle::list::list_standard` meets its contract: the loop fills from the front, with `left` positions still inside.
+-- Assumes nothing.
+use Prim.Native.Nat.{ℕ, _+_, _-_, _^_, _≤_, _<_}
 use mathlib.Core.List.{List}
 use mathlib.Core.Path.{_≡_, ap, _∙_}
 use native.Mathlib.Nat.{one-mul}
 use native.Mathlib.Omega.{arith}
 use borrow.Author.Needs.{needs}
-use lib.ListN.{length, take}
+use borrow.Author.Tests.{le-leb, lt-leb}
+use lib.Dec.{leb}
+use lib.ListN.{length}
 use Rattle.def_wire.specs.Bytes.{words16, be16}
-use Rattle.def_standard.specs.Chunks.{coversOf, valuesIn}
+use Rattle.def_standard.specs.Chunks.{coversOf}
 use Rattle.def_standard.specs.Standard.{numbersOf}
-use Rattle.laws.proofs.Filling.{Filling, start, skip, room-for, done}
-use Rattle.laws.proofs.Stores.{Wrote}
-use Rattle.rle.proofs.Writing.{wrote, wrote-last}
-use Rattle.rle.specs.Along.{along}
+use Rattle.laws.specs.Stores.{Wrote}
+use Rattle.laws.proofs.Filling.{Filling, start, skip, done}
 use Rattle.range.specs.Steps.{stepOf}
-use Rattle.rle.proofs.StandardTurn.{Standing, here, begin-standing, here-start, here-end, here-word, here-last, here-next, next-standing}
+use Rattle.rle.proofs.Turn.{Turn, fill-room, fill-last, fill-next}
+use Rattle.rle.proofs.StandardTurn.{Standing, begin-standing, next-standing}
+use Rattle.rle.proofs.StandardTurn.{here, added, here-start, here-end, turn}
 use Rattle.rle.proofs.list.list_standard.Statement.{statement}
 use Rattle.rle.proofs.list.list_standard.Tie as tie
 
 abbrev Inv-loop : tie.InvT-loop
 Inv-loop bytes g out₀ step left₀ first₀ at₀ n₀ out left first at n =
-    (at ≤ length bytes) × Standing g left first × Filling (numbersOf g (words16 bytes)) out₀ out (here g bytes at left) n
+    (at ≤ length bytes) × Standing g left first
+    × Filling (numbersOf g (words16 bytes)) out₀ out (here g bytes at left) n
 
 abbrev μ-loop : tie.MeasureT-loop
 μ-loop bytes g out₀ step left₀ first₀ at₀ n₀ out left first at n = length bytes - at
@@ -38,127 +42,61 @@ abbrev word : tie.At-loop Inv-loop μ-loop → ℕ
 word l = be16 (entry l .args .bytes .now) (l .loop .at)
 
 -- the numbers that it adds
-abbrev added : tie.At-loop Inv-loop μ-loop → List ℕ
-added l = along (stepOf (entry l .args .g .thinning)) (l .loop .first) (take (l .loop .left) (valuesIn (word l)))
+abbrev numbers : tie.At-loop Inv-loop μ-loop → List ℕ
+numbers l = added (entry l .args .g) (word l) (l .loop .left) (l .loop .first)
 
 -- they were stored
-stored : (c : tie.After-store-word Inv-loop μ-loop)
-    → let l = c .before .before .before .before .before .before in Wrote (l .loop .out) (l .loop .n) (added l) (c .store-word .last .0) (c .store-word .result)
-stored c =
-    let l = c .before .before .before .before .before .before in
+stored : (c : tie.After-store-word Inv-loop μ-loop) → let l = c .before .before .before .before .before .before in
+    Wrote (l .loop .out) (l .loop .n) (numbers l) (c .store-word .last .0) (c .store-word .result)
+stored c = let l = c .before .before .before .before .before .before in
     rw (← stepped l, ← c .before .before .pair .ensures) (c .store-word .ensures)
 
-doubled-requires : tie.Need-doubled-requires Inv-loop μ-loop
-doubled-requires c κs = search needs
-
-inside-count-requires : tie.Need-inside-count-requires Inv-loop μ-loop
-inside-count-requires c κs = search needs
+-- the word's turn
+here-turn : (i : tie.In-loop Inv-loop μ-loop) → let l = i .before in let k = l .loop in let a = entry l .args in
+    Turn (here (a .g) (a .bytes .now) (k .at) (k .left)) (numbers l) (leb (k .left) (coversOf (word l)))
+    (here (a .g) (a .bytes .now) (k .at + 2) (k .left - coversOf (word l)))
+here-turn i = let k = i .before .loop in let a = entry (i .before) .args in
+    turn (a .g) (a .bytes .now) (k .at) (k .left) (k .first) (k .inv .1) (i .loop-test .taken)
 
 loop-holds : tie.Need-loop-holds Inv-loop μ-loop
-loop-holds c = let s = c .before .before .before .before in
-    let g = s .args .g in
-    (omega arith, rw (c .inside-count .ensures) (begin-standing g (search needs)), rw (c .inside-count .ensures) (skip (here-start g (s .args .bytes .now)) (start (s .pre))))
-
-add-loop : tie.Need-add-loop Inv-loop μ-loop
-add-loop c = search needs
-
-shared-slice-read-pair : tie.Need-shared-slice-read-pair Inv-loop μ-loop
-shared-slice-read-pair c = search needs
-
-add-pair : tie.Need-add-pair Inv-loop μ-loop
-add-pair c = search needs
-
-shared-slice-read-pair-2 : tie.Need-shared-slice-read-pair-2 Inv-loop μ-loop
-shared-slice-read-pair-2 c = search needs
-
-pair-requires : tie.Need-pair-requires Inv-loop μ-loop
-pair-requires c κs = search needs
+loop-holds c = let a = c .before .before .before .before .args in
+    let k = c .inside-count .ensures in
+    let e = here-start (a .g) (a .bytes .now) in
+    (omega arith, rw k (begin-standing (a .g) (search needs)), rw k (skip e (start (omega arith))))
 
 store-word-requires : tie.Need-store-word-requires Inv-loop μ-loop
 store-word-requires c κs = let p = c .before in
-    let l = p .before .before .before .before in
-    let s = entry l in
-    let h = p .before .before .before .loop-test .taken in
-    let e = here-word (s .args .g) (s .args .bytes .now) (l .loop .at) (l .loop .left) (l .loop .first) (l .loop .inv .1) h in
-    rw (stepped l, p .pair .ensures) (room-for (added l) _ e (l .loop .inv .2))
-
-covers-requires : tie.Need-covers-requires Inv-loop μ-loop
-covers-requires c κs = search needs
-
-cast-if1 : tie.Need-cast-if1 Inv-loop μ-loop
-cast-if1 c = search needs
-
-same-length : tie.Need-same-length Inv-loop μ-loop
-same-length c = search needs
+    let i = p .before .before .before in
+    rw (stepped (i .before), p .pair .ensures) (fill-room (here-turn i) (i .before .loop .inv .2))
 
 returns : tie.Need-returns Inv-loop μ-loop
 returns c = let w = c .before .before .before .before in
-    let l = w .before .before .before .before .before .before in
-    let s = entry l in
-    let h = w .before .before .before .before .before .loop-test .taken in
-    let k : l .loop .left ≤ coversOf (word l) = rw (← w .before .before .pair .ensures, ← c .before .covers .ensures) (c .if1 .taken) in
-    wrote-last (here-last (s .args .g) (s .args .bytes .now) (l .loop .at) (l .loop .left) (l .loop .first) (l .loop .inv .1) h k) (stored w) (l .loop .inv .2)
-
-cast-left : tie.Need-cast-left Inv-loop μ-loop
-cast-left c = search needs
-
-sub-left : tie.Need-sub-left Inv-loop μ-loop
-sub-left c = search needs
-
-moved-by-requires : tie.Need-moved-by-requires Inv-loop μ-loop
-moved-by-requires c κs = search needs
-
-add-at : tie.Need-add-at Inv-loop μ-loop
-add-at c = search needs
-
-loop-less : tie.Need-loop-less Inv-loop μ-loop
-loop-less c = search needs
+    let i = w .before .before .before .before .before in
+    let l = i .before in
+    let k : l .loop .left ≤ coversOf (word l) =
+    rw (← w .before .before .pair .ensures, ← c .before .covers .ensures) (c .if1 .taken) in
+    fill-last (here-turn i) (l .loop .inv .2) (stored w) (le-leb _ _ k)
 
 loop-again : tie.Need-loop-again Inv-loop μ-loop
 loop-again c = let v = c .before .before in
     let w = v .before .before .before in
-    let l = w .before .before .before .before .before .before in
-    let s = entry l in
-    let h = w .before .before .before .before .before .loop-test .taken in
-    let cov : v .covers .result ≡ coversOf (word l) = v .covers .ensures ∙ ap coversOf (w .before .before .pair .ensures) in
-    let k : coversOf (word l) < l .loop .left = rw (← cov) (c .before .if1 .left) in (
-      omega arith,
-      rw (c .moved-by .ensures, cov) (next-standing (s .args .g) (l .loop .left) (l .loop .first) (coversOf (word l)) k (l .loop .inv .1)),
-      rw cov (wrote (here-next (s .args .g) (s .args .bytes .now) (l .loop .at) (l .loop .left) (l .loop .first) (l .loop .inv .1) h k) (stored w) (l .loop .inv .2)),
-    )
-
-same-length-2 : tie.Need-same-length-2 Inv-loop μ-loop
-same-length-2 c = search needs
+    let i = w .before .before .before .before .before in
+    let l = i .before in
+    let cov = v .covers .ensures ∙ ap coversOf (w .before .before .pair .ensures) in
+    let k : coversOf (word l) < l .loop .left = rw cov at (c .before .if1 .left) in
+    let s = next-standing (entry l .args .g) (l .loop .left) (l .loop .first) _ k (l .loop .inv .1) in
+    let f = fill-next (here-turn i) (l .loop .inv .2) (stored w) (lt-leb _ _ k) in
+    (omega arith, rw (c .moved-by .ensures, cov) s, rw cov f)
 
 returns-2 : tie.Need-returns-2 Inv-loop μ-loop
 returns-2 c = let l = c .before in
-    let s = entry l in
-    done (here-end (s .args .g) (s .args .bytes .now) (l .loop .at) (l .loop .left) (c .loop-test .left)) (l .loop .inv .2)
+    let a = entry l .args in
+    done (here-end (a .g) (a .bytes .now) (l .loop .at) (l .loop .left) (c .loop-test .left)) (l .loop .inv .2)
 
 pub list-standard-spec : {M : Type 1} → statement M
 list-standard-spec =
     tie.close
-    (tie.spec
-    Inv-loop
-    μ-loop
-    doubled-requires
-    inside-count-requires
-    loop-holds
-    add-loop
-    shared-slice-read-pair
-    add-pair
-    shared-slice-read-pair-2
-    pair-requires
-    store-word-requires
-    covers-requires
-    cast-if1
-    same-length
-    returns
-    cast-left
-    sub-left
-    moved-by-requires
-    add-at
-    loop-less
-    loop-again
-    same-length-2
-    returns-2)
+    (tie.spec Inv-loop μ-loop (λ c κs. search needs) (λ c κs. search needs) loop-holds (λ c. search needs)
+    (λ c. search needs) (λ c. search needs) (λ c. search needs) (λ c κs. search needs) store-word-requires
+    (λ c κs. search needs) (λ c. search needs) (λ c. search needs) returns (λ c. search needs) (λ c. search needs)
+    (λ c κs. search needs) (λ c. search needs) (λ c. search needs) loop-again (λ c. search needs) returns-2)

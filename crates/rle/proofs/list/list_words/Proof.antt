@@ -5,7 +5,7 @@ use borrow.Author.Needs.{needs}
 use lib.ListN.{length, drop}
 use Rattle.def_wire.specs.Bytes.{words16}
 use Rattle.laws.proofs.Filling.{Filling, start, within, put, done}
-use Rattle.utils.proofs.BytesLaws.{pairUp-cons, pairUp-end}
+use Rattle.rle.proofs.Turn.{words-cons, words-end}
 use Rattle.rle.proofs.list.list_words.Statement.{statement}
 use Rattle.rle.proofs.list.list_words.Tie as tie
 
@@ -17,70 +17,27 @@ abbrev μ-loop : tie.MeasureT-loop
 μ-loop bytes out₀ at₀ n₀ out at n = length bytes - at
 
 loop-holds : tie.Need-loop-holds Inv-loop μ-loop
-loop-holds c = (omega arith, omega arith, start (c .before .before .pre))
-
-add-loop : tie.Need-add-loop Inv-loop μ-loop
-add-loop c = search needs
-
-shared-slice-read-pair : tie.Need-shared-slice-read-pair Inv-loop μ-loop
-shared-slice-read-pair c = search needs
-
-add-pair : tie.Need-add-pair Inv-loop μ-loop
-add-pair c = search needs
-
-shared-slice-read-pair-2 : tie.Need-shared-slice-read-pair-2 Inv-loop μ-loop
-shared-slice-read-pair-2 c = search needs
-
-pair-requires : tie.Need-pair-requires Inv-loop μ-loop
-pair-requires c κs = search needs
-
-mul-out : tie.Need-mul-out Inv-loop μ-loop
-mul-out c = search needs
+loop-holds c = (omega arith, omega arith, start (omega arith))
 
 slice-write-out : tie.Need-slice-write-out Inv-loop μ-loop
 slice-write-out c = let l = c .before .before .before .before in
     let a = l .before .before .before .args in
-    within (pairUp-cons 256 (a .bytes .now) (l .loop .at) (omega (arith, c .before .before .before .loop-test .taken))) (l .loop .inv .2)
-
-add-n : tie.Need-add-n Inv-loop μ-loop
-add-n c = search needs
-
-add-at : tie.Need-add-at Inv-loop μ-loop
-add-at c = search needs
-
-loop-less : tie.Need-loop-less Inv-loop μ-loop
-loop-less c = search needs
+    within (words-cons (a .bytes .now) (l .loop .at) (c .before .before .before .loop-test .taken)) (l .loop .inv .2)
 
 loop-again : tie.Need-loop-again Inv-loop μ-loop
 loop-again c = let l = c .before .before .before .before in
     let a = l .before .before .before .args in
-    (omega arith, omega arith, rw (c .pair .ensures) (put (pairUp-cons 256 (a .bytes .now) (l .loop .at) (omega (arith, c .before .before .before .loop-test .taken))) (l .loop .inv .2)))
-
-same-length : tie.Need-same-length Inv-loop μ-loop
-same-length c = search needs
+    let e = words-cons (a .bytes .now) (l .loop .at) (c .before .before .before .loop-test .taken) in
+    (omega arith, omega arith, rw (c .pair .ensures) (put e (l .loop .inv .2)))
 
 returns : tie.Need-returns Inv-loop μ-loop
 returns c = let l = c .before in
     let a = l .before .before .before .args in
-    done (pairUp-end 256 (a .bytes .now) (l .loop .at) (c .loop-test .left)) (l .loop .inv .2)
+    done (words-end (a .bytes .now) (l .loop .at) (c .loop-test .left)) (l .loop .inv .2)
 
 pub list-words-spec : {M : Type 1} → statement M
 list-words-spec =
     tie.close
-    (tie.spec
-    Inv-loop
-    μ-loop
-    loop-holds
-    add-loop
-    shared-slice-read-pair
-    add-pair
-    shared-slice-read-pair-2
-    pair-requires
-    mul-out
-    slice-write-out
-    add-n
-    add-at
-    loop-less
-    loop-again
-    same-length
-    returns)
+    (tie.spec Inv-loop μ-loop loop-holds (λ c. search needs) (λ c. search needs) (λ c. search needs)
+    (λ c. search needs) (λ c κs. search needs) (λ c. search needs) slice-write-out (λ c. search needs)
+    (λ c. search needs) (λ c. search needs) loop-again (λ c. search needs) returns)

@@ -1,30 +1,35 @@
--- `rle::list::tally_crate` meets its contract: what is counted and what is still to be listed make up the whole. Assumes nothing.
-use Rattle.range.proofs.NextLaws.{next-same}
+-- `rle::list::tally_crate` meets its contract: what is counted and what is to be listed make up the whole. Assumes
+-- nothing.
 use Prim.Native.Nat.{ℕ, _+_, _-_, _*_, _%_, _^_, _≤_, _<_}
+use mathlib.Core.List.{List}
 use mathlib.Core.Logic.{⊎-elim}
 use mathlib.Core.Path.{_≡_, refl, sym, ap, _∙_}
 use native.Mathlib.Nat.{mod-lt}
 use native.Mathlib.Omega.{arith}
 use borrow.Author.Needs.{needs}
-use lib.Dec.{lit<}
+use borrow.Author.Tests.{le-ltb, lt-ltb}
+use lib.Dec.{ltb, lit<}
 use lib.ListN.{length}
+use Rattle.laws.proofs.Filling.{Counting}
 use Rattle.def_wire.specs.Bytes.{words16, be16}
 use Rattle.def_standard.specs.Chunks.{coversOf}
 use Rattle.def_crate.specs.Sequence.{movedBy}
 use Rattle.def_crate.specs.Crate.{crateNumbersFrom}
 use Rattle.range.specs.Steps.{stepOf}
-use Rattle.rle.specs.Stops.{stopAt}
 use Rattle.range.specs.Failing.{firstFail}
-use Rattle.rle.proofs.WordLaws.{length-ones, along-same}
+use Rattle.range.proofs.NextLaws.{next-same}
+use Rattle.rle.specs.Stops.{stopAt}
 use Rattle.rle.specs.Runs.{here}
-use Rattle.rle.proofs.CrateTurn.{added, length-here, here-end, here-zeros, count-room, count-last, count-next}
+use Rattle.rle.proofs.WordLaws.{length-ones, along-same}
+use Rattle.rle.proofs.Turn.{Turn, count-room, count-last, count-next}
+use Rattle.rle.proofs.CrateTurn.{added, length-here, here-end, here-zeros, turn}
 use Rattle.rle.proofs.list.tally_crate.Statement.{statement}
 use Rattle.rle.proofs.list.tally_crate.Tie as tie
 
 abbrev Inv-loop : tie.InvT-loop
 Inv-loop bytes end thinning begin start₀ first₀ at₀ n₀ start first at n =
     (at ≤ length bytes) × (start < 65536) × (first ≡ firstFail start end thinning)
-    × (n + length (here end thinning bytes at start) ≡ length (crateNumbersFrom end thinning begin (words16 bytes)))
+    × Counting (crateNumbersFrom end thinning begin (words16 bytes)) (here end thinning bytes at start) n
 
 abbrev μ-loop : tie.MeasureT-loop
 μ-loop bytes end thinning begin start₀ first₀ at₀ n₀ start first at n = length bytes - at
@@ -36,9 +41,9 @@ entry l = l .before .before .before
 abbrev head : tie.After-covers Inv-loop μ-loop → tie.At-loop Inv-loop μ-loop
 head v = v .before .before .before .before .before
 
--- how many there are in all
-abbrev total : tie.At-loop Inv-loop μ-loop → ℕ
-total l = let a = entry l .args in length (crateNumbersFrom (a .end) (a .thinning) (a .begin) (words16 (a .bytes .now)))
+-- what is listed in all
+abbrev whole : tie.At-loop Inv-loop μ-loop → List ℕ
+whole l = let a = entry l .args in crateNumbersFrom (a .end) (a .thinning) (a .begin) (words16 (a .bytes .now))
 
 -- the word at hand
 abbrev word : tie.At-loop Inv-loop μ-loop → ℕ
@@ -55,136 +60,95 @@ stops : (c : tie.After-stop-at Inv-loop μ-loop) → c .stop-at .result ≡ stop
 stops c = let v = c .before .before in let l = head v in let a = entry l .args in
     c .stop-at .ensures ∙ ap (stopAt (l .loop .start) (a .end) (a .thinning)) (v .before .pair .ensures)
 
--- as many are counted as it adds
-more : (c : tie.After-ones-before Inv-loop μ-loop) → let l = head (c .before .before .before) in let a = entry l .args in
-    c .ones-before .result ≡ length (added (a .end) (a .thinning) (word l) (l .loop .start))
+-- what it adds, and as many are counted
+abbrev numbers : tie.At-loop Inv-loop μ-loop → List ℕ
+numbers l = let a = entry l .args in added (a .end) (a .thinning) (word l) (l .loop .start)
+
+more : (c : tie.After-ones-before Inv-loop μ-loop)
+    → c .ones-before .result ≡ length (numbers (head (c .before .before .before)))
 more c = let v = c .before .before .before in let l = head v in let a = entry l .args in
     c .ones-before .ensures
     ∙ length-ones (stepOf (a .thinning)) (l .loop .start) (c .before .stop-at .result) (v .before .pair .result)
     ∙ ap length (along-same (l .loop .start) refl (stops (c .before)) (v .before .pair .ensures))
 
+-- what is still to be listed, from here and behind the word, and the word's turn
+abbrev from : tie.At-loop Inv-loop μ-loop → ℕ → ℕ → List ℕ
+from l at start = let a = entry l .args in here (a .end) (a .thinning) (a .bytes .now) at start
+
+abbrev rest : tie.At-loop Inv-loop μ-loop → List ℕ
+rest l = from l (l .loop .at + 2) (movedBy (coversOf (word l)) (entry l .args .thinning) (l .loop .start))
+
+here-turn : (i : tie.In-loop Inv-loop μ-loop) → let l = i .before in
+    Turn (from l (l .loop .at) (l .loop .start)) (numbers l) (ltb (stop l) (coversOf (word l))) (rest l)
+here-turn i = let k = i .before .loop in let a = entry (i .before) .args in
+    turn (a .end) (a .thinning) (a .bytes .now) (k .at) (k .start) (k .inv .1) (i .loop-test .taken)
+
 -- what is counted where the loop goes on
-onward : (c : tie.Joined1 Inv-loop μ-loop) → let l = head (c .before) in let a = entry l .args in
-    c .if1 .n + length (here (a .end) (a .thinning) (a .bytes .now) (l .loop .at + 2) (movedBy (coversOf (word l)) (a .thinning) (l .loop .start))) ≡ total l
-onward c = let v = c .before in let l = head v in let a = entry l .args in
-    let h = v .before .before .before .before .loop-test .taken in
+onward : (c : tie.Joined1 Inv-loop μ-loop) → let l = head (c .before) in Counting (whole l) (rest l) (c .if1 .n)
+onward c = let v = c .before in
+    let i = v .before .before .before .before in
+    let l = i .before in
+    let a = entry l .args in
+    let k = l .loop in
+    let h = i .loop-test .taken in
+    let zeros = here-zeros (a .end) (a .thinning) (a .bytes .now) (k .at) (k .start) (k .inv .1) h in
     ⊎-elim
-    (λ w. let o : tie.After-ones-before Inv-loop μ-loop = record { before = record { before = record { before = v; if1 = w .0 }; stop-at = w .1 }; ones-before = w .2 } in
-    let e : coversOf (word l) ≤ stop l = rw (← stops (o .before), ← covered v) (w .3 .left) in
-    rw (w .4) (count-next (a .end) (a .thinning) (a .bytes .now) (l .loop .at) (l .loop .start) (l .loop .inv .1) h (l .loop .n) (o .ones-before .result) (total l) (more o) (l .loop .inv .3) e))
+    (λ w. let q : tie.After-stop-at Inv-loop μ-loop =
+    record { before = record { before = v; if1 = w .0 }; stop-at = w .1 } in
+    let m = more (record { before = q; ones-before = w .2 }) in
+    let e : coversOf (word l) ≤ stop l = rw (← stops q, ← covered v) (w .3 .left) in
+    rw (w .4) (count-next (here-turn i) (k .inv .3) m (le-ltb _ _ e)))
     (λ w. let z : word l < 16384 = rw (← v .before .pair .ensures) (w .0 .left) in
-    rw (w .1, ← here-zeros (a .end) (a .thinning) (a .bytes .now) (l .loop .at) (l .loop .start) (l .loop .inv .1) h z) (l .loop .inv .3))
+    rw (w .1, ← zeros z) (k .inv .3))
     (c .if1 .came)
 
 -- the start and the first place that fails, for the next word
 next : (c : tie.Joined3 Inv-loop μ-loop) → let l = head (c .before .before) in let a = entry l .args in
-    (c .if3 .start ≡ movedBy (coversOf (word l)) (a .thinning) (l .loop .start)) × (c .if3 .first ≡ firstFail (c .if3 .start) (a .end) (a .thinning))
+    (c .if3 .start ≡ movedBy (coversOf (word l)) (a .thinning) (l .loop .start))
+    × (c .if3 .first ≡ firstFail (c .if3 .start) (a .end) (a .thinning))
 next c = let v = c .before .before in let l = head v in let a = entry l .args in
     let cov = ap (λ (n : ℕ). movedBy n (a .thinning) (l .loop .start)) (covered v) in
+    let same = next-same (l .loop .start) (a .end) (a .thinning) (v .covers .result) (l .loop .inv .1) (omega arith) in
     ⊎-elim
     (λ w. (w .3 ∙ w .1 .ensures ∙ cov, rw (w .3, w .4) (w .2 .ensures)))
-    (λ w. (w .1 ∙ sym (next-same (l .loop .start) (a .end) (a .thinning) (v .covers .result) (l .loop .inv .1) (omega arith) (w .0 .left)) ∙ cov, rw (w .1, w .2) (l .loop .inv .2)))
+    (λ w. (w .1 ∙ sym (same (w .0 .left)) ∙ cov, rw (w .1, w .2) (l .loop .inv .2)))
     (c .if3 .came)
 
-first-fail-requires : tie.Need-first-fail-requires Inv-loop μ-loop
-first-fail-requires c κs = search needs
-
 loop-holds : tie.Need-loop-holds Inv-loop μ-loop
-loop-holds c = (omega arith, omega arith, c .first-fail .ensures, omega arith)
-
-add-loop : tie.Need-add-loop Inv-loop μ-loop
-add-loop c = search needs
-
-shared-slice-read-pair : tie.Need-shared-slice-read-pair Inv-loop μ-loop
-shared-slice-read-pair c = search needs
-
-add-pair : tie.Need-add-pair Inv-loop μ-loop
-add-pair c = search needs
-
-shared-slice-read-pair-2 : tie.Need-shared-slice-read-pair-2 Inv-loop μ-loop
-shared-slice-read-pair-2 c = search needs
-
-pair-requires : tie.Need-pair-requires Inv-loop μ-loop
-pair-requires c κs = search needs
-
-covers-requires : tie.Need-covers-requires Inv-loop μ-loop
-covers-requires c κs = search needs
-
-stop-at-requires : tie.Need-stop-at-requires Inv-loop μ-loop
-stop-at-requires c κs = search needs
-
-ones-before-requires : tie.Need-ones-before-requires Inv-loop μ-loop
-ones-before-requires c κs = search needs
+loop-holds c = (omega arith, omega arith, c .first-fail .ensures, record { count = omega arith })
 
 add-n : tie.Need-add-n Inv-loop μ-loop
-add-n c = let v = c .before .before .before in
-    let l = head v in
+add-n c = let i = c .before .before .before .before .before .before .before in
+    let l = i .before in
     let s = entry l in
     let a = s .args in
-    let k = count-room (a .end) (a .thinning) (a .bytes .now) (l .loop .at) (l .loop .start) (l .loop .inv .1) (v .before .before .before .before .loop-test .taken) (l .loop .n) (c .ones-before .result) (total l) (more c) (l .loop .inv .3) in
+    let k = count-room (here-turn i) (l .loop .inv .3) (more c) in
     omega (arith, k, length-here (a .end) (a .thinning) (a .bytes .now) (a .begin) (omega arith) (s .pre))
-
-cast-if2 : tie.Need-cast-if2 Inv-loop μ-loop
-cast-if2 c = search needs
 
 returns : tie.Need-returns Inv-loop μ-loop
 returns c = let o = c .before in
     let v = o .before .before .before in
-    let l = head v in
-    let a = entry l .args in
+    let i = v .before .before .before .before in
+    let l = i .before in
     let e : stop l < coversOf (word l) = rw (← stops (o .before), ← covered v) (c .if2 .taken) in
-    count-last (a .end) (a .thinning) (a .bytes .now) (l .loop .at) (l .loop .start) (l .loop .inv .1) (v .before .before .before .before .loop-test .taken) (l .loop .n) (o .ones-before .result) (total l) (more o) (l .loop .inv .3) e
-
-moved-by-requires : tie.Need-moved-by-requires Inv-loop μ-loop
-moved-by-requires c κs = search needs
-
-next-fail-requires : tie.Need-next-fail-requires Inv-loop μ-loop
-next-fail-requires c κs = search needs
-
-add-at : tie.Need-add-at Inv-loop μ-loop
-add-at c = search needs
-
-loop-less : tie.Need-loop-less Inv-loop μ-loop
-loop-less c = search needs
+    count-last (here-turn i) (l .loop .inv .3) (more o) (lt-ltb _ _ e)
 
 loop-again : tie.Need-loop-again Inv-loop μ-loop
-loop-again c = let v = c .before .before in
-    let l = head v in
-    let n = next c in (
-      omega arith,
-      rw (n .0) (mod-lt (l .loop .start + coversOf (word l) * 2 ^ entry l .args .thinning % 65536) (lit< tt)),
-      n .1,
-      rw (n .0) (onward (c .before)),
-    )
+loop-again c = let l = head (c .before .before) in
+    let n = next c in
+    let small = mod-lt (l .loop .start + coversOf (word l) * 2 ^ entry l .args .thinning % 65536) (lit< tt) in
+    (omega arith, rw (n .0) small, n .1, rw (n .0) (onward (c .before)))
 
 returns-2 : tie.Need-returns-2 Inv-loop μ-loop
 returns-2 c = let l = c .before in
     let a = entry l .args in
     let k = here-end (a .end) (a .thinning) (a .bytes .now) (l .loop .at) (l .loop .start) (c .loop-test .left) in
-    omega (arith, ap length k, l .loop .inv .3)
+    omega (arith, ap length k, l .loop .inv .3 .count)
 
 pub tally-crate-spec : {M : Type 1} → statement M
 tally-crate-spec =
     tie.close
-    (tie.spec
-    Inv-loop
-    μ-loop
-    first-fail-requires
-    loop-holds
-    add-loop
-    shared-slice-read-pair
-    add-pair
-    shared-slice-read-pair-2
-    pair-requires
-    covers-requires
-    stop-at-requires
-    ones-before-requires
-    add-n
-    cast-if2
-    returns
-    moved-by-requires
-    next-fail-requires
-    add-at
-    loop-less
-    loop-again
-    returns-2)
+    (tie.spec Inv-loop μ-loop (λ c κs. search needs) loop-holds (λ c. search needs) (λ c. search needs)
+    (λ c. search needs) (λ c. search needs) (λ c κs. search needs) (λ c κs. search needs) (λ c κs. search needs)
+    (λ c κs. search needs) add-n (λ c. search needs) returns (λ c κs. search needs) (λ c κs. search needs)
+    (λ c. search needs) (λ c. search needs) loop-again returns-2)

@@ -9,36 +9,19 @@ use Rattle.rle.proofs.word.next_fail.Tie as tie
 returns : tie.Need-returns
 returns c = let s = c .before .before in
     let a = s .args in
-    rw (s .pre .1) (c .before .if1 .taken ∙ sym (next-never (a .start) (a .end) (a .thinning) (a .covered) (omega arith) (omega arith) (c .if2 .taken) (sym (s .pre .0) ∙ c .before .if1 .taken)))
-
-first-fail-requires : tie.Need-first-fail-requires
-first-fail-requires c κs = search needs
-
-returns-2 : tie.Need-returns-2
-returns-2 c = search needs
-
-sub-result : tie.Need-sub-result
-sub-result c = search needs
+    let n = c .before .if1 .taken in
+    let k = next-never (a .start) (a .end) (a .thinning) (a .covered) (omega arith) (omega arith) in
+    rw (s .pre .1) (n ∙ sym (k (c .if2 .taken) (sym (s .pre .0) ∙ n)))
 
 returns-3 : tie.Need-returns-3
 returns-3 c = let s = c .before .before in
     let a = s .args in
-    rw (s .pre .1, s .pre .0) (next-less (a .start) (a .end) (a .thinning) (a .covered) (omega arith) (omega arith) (omega (arith, s .pre .0, c .if3 .taken)) (λ n. c .before .if1 .left (s .pre .0 ∙ n)))
-
-first-fail-requires-2 : tie.Need-first-fail-requires-2
-first-fail-requires-2 c κs = search needs
-
-returns-4 : tie.Need-returns-4
-returns-4 c = search needs
+    let k = next-less (a .start) (a .end) (a .thinning) (a .covered) (omega arith) (omega arith) in
+    rw (s .pre .1, s .pre .0)
+    (k (omega (arith, s .pre .0, c .if3 .taken)) (λ n. c .before .if1 .left (s .pre .0 ∙ n)))
 
 pub next-fail-spec : {M : Type 1} → statement M
 next-fail-spec =
     tie.close
-    (tie.spec
-    returns
-    first-fail-requires
-    returns-2
-    sub-result
-    returns-3
-    first-fail-requires-2
-    returns-4)
+    (tie.spec returns (λ c κs. search needs) (λ c. search needs) (λ c. search needs) returns-3 (λ c κs. search needs)
+    (λ c. search needs))

@@ -6,17 +6,15 @@ use borrow.Author.Needs.{needs}
 use Rattle.rle.proofs.word.number_on.Statement.{statement}
 use Rattle.rle.proofs.word.number_on.Tie as tie
 
+small : (c : tie.Start) → c .args .q * c .args .step ≤ 15 * 65535
+small c = let b : c .args .step ≤ 65535 = omega arith in mul-le-mul (c .pre) b
+
 mul-result : tie.Need-mul-result
-mul-result c = let b : c .args .step ≤ 65535 = omega arith in let k : c .args .q * c .args .step ≤ 15 * 65535 = mul-le-mul (c .pre) b in omega arith
+mul-result c = omega (arith, small c)
 
 add-result : tie.Need-add-result
-add-result c = let b : c .args .step ≤ 65535 = omega arith in let k : c .args .q * c .args .step ≤ 15 * 65535 = mul-le-mul (c .pre) b in omega arith
-
-cast-result : tie.Need-cast-result
-cast-result c = search needs
-
-returns : tie.Need-returns
-returns c = search needs
+add-result c = omega (arith, small c)
 
 pub number-on-spec : {M : Type 1} → statement M
-number-on-spec = tie.close (tie.spec mul-result add-result cast-result returns)
+number-on-spec =
+    tie.close (tie.spec mul-result add-result (λ c. search needs) (λ c. search needs))

@@ -9,17 +9,12 @@ use borrow.Author.Needs.{needs}
 use Rattle.rle.proofs.word.stop_at.Statement.{statement}
 use Rattle.rle.proofs.word.stop_at.Tie as tie
 
-covers-requires : tie.Need-covers-requires
-covers-requires c κs = search needs
-
-cast-covered : tie.Need-cast-covered
-cast-covered c = search needs
-
 returns : tie.Need-returns
 returns c = let v = c .before in
     let s = v .before in
     let a = s .args in
-    let k : coversOf (a .w) ≤ firstFail (a .start) (a .end) (a .thinning) = omega (arith, v .covers .ensures, s .pre, c .if1 .taken) in
+    let k : coversOf (a .w) ≤ firstFail (a .start) (a .end) (a .thinning) =
+    omega (arith, v .covers .ensures, s .pre, c .if1 .taken) in
     v .covers .ensures ∙ sym (stop-clear (a .start) (a .end) (a .thinning) (a .w) (omega arith) (omega arith) k)
 
 returns-2 : tie.Need-returns-2
@@ -32,23 +27,13 @@ returns-3 c = let e = c .before in
     let v = e .before .before in
     let s = v .before in
     let a = s .args in
-    let k : firstFail (a .start) (a .end) (a .thinning) < coversOf (a .w) = omega (arith, v .covers .ensures, s .pre, e .before .if1 .left) in
-    s .pre ∙ sym (stop-ones (a .start) (a .end) (a .thinning) (a .w) (omega arith) (omega arith) (e .if2 .left) (c .if3 .taken) k)
-
-stop-in-vector-requires : tie.Need-stop-in-vector-requires
-stop-in-vector-requires c κs = search needs
-
-returns-4 : tie.Need-returns-4
-returns-4 c = search needs
+    let k : firstFail (a .start) (a .end) (a .thinning) < coversOf (a .w) =
+    omega (arith, v .covers .ensures, s .pre, e .before .if1 .left) in
+    let ones = stop-ones (a .start) (a .end) (a .thinning) (a .w) (omega arith) (omega arith) in
+    s .pre ∙ sym (ones (e .if2 .left) (c .if3 .taken) k)
 
 pub stop-at-spec : {M : Type 1} → statement M
 stop-at-spec =
     tie.close
-    (tie.spec
-    covers-requires
-    cast-covered
-    returns
-    returns-2
-    returns-3
-    stop-in-vector-requires
-    returns-4)
+    (tie.spec (λ c κs. search needs) (λ c. search needs) returns returns-2 returns-3 (λ c κs. search needs)
+    (λ c. search needs))

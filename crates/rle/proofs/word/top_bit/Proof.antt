@@ -1,4 +1,4 @@
--- `rle::word::top_bit` meets its contract: the leading zeros and the digits below the highest make 32. Assumes nothing.
+-- `rle::word::top_bit` meets its contract: leading zeros and the digits below the highest make 32. Assumes nothing.
 use lib.Count.{leadingZeros, leading-le, leading-top}
 use native.Mathlib.Omega.{arith}
 use mathlib.Core.Path.{_≡_}
@@ -18,4 +18,5 @@ returns c = let t = leading-top 32 (c .args .v) (c .pre) (omega arith) in
     rw e (record { least = t .2; below = t .3 })
 
 pub top-bit-spec : {M : Type 1} → statement M
-top-bit-spec = tie.close (tie.spec cast-result sub-result returns)
+top-bit-spec =
+    tie.close (tie.spec cast-result sub-result returns)

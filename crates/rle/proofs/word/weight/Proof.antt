@@ -7,14 +7,9 @@ use Rattle.rle.proofs.word.weight.Tie as tie
 returns : tie.Need-returns
 returns c = simp (lt-ltb _ _ (c .if1 .taken))
 
-covers-requires : tie.Need-covers-requires
-covers-requires c κs = search needs
-
-cast-result : tie.Need-cast-result
-cast-result c = search needs
-
 returns-2 : tie.Need-returns-2
 returns-2 c = simp (le-ltb _ _ (c .before .if1 .left)) (c .covers .ensures)
 
 pub weight-spec : {M : Type 1} → statement M
-weight-spec = tie.close (tie.spec returns covers-requires cast-result returns-2)
+weight-spec =
+    tie.close (tie.spec returns (λ c κs. search needs) (λ c. search needs) returns-2)

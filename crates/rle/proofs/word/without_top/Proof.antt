@@ -11,11 +11,6 @@ cast-result c = omega (arith, top-below 32 (omega arith) (c .pre))
 shl-result : tie.Need-shl-result
 shl-result c = omega (arith, top-below 32 (omega arith) (c .pre))
 
-sub-result : tie.Need-sub-result
-sub-result c = search needs
-
-returns : tie.Need-returns
-returns c = search needs
-
 pub without-top-spec : {M : Type 1} → statement M
-without-top-spec = tie.close (tie.spec cast-result shl-result sub-result returns)
+without-top-spec =
+    tie.close (tie.spec cast-result shl-result (λ c. search needs) (λ c. search needs))

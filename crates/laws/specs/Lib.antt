@@ -1,0 +1,2 @@
+-- Stores: what a call that stores a list leaves.
+pub mod Stores
