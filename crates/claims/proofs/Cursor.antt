@@ -1,17 +1,13 @@
 -- The number cursor by calls of any budgets lists what the list functions list. Assumes nothing.
-use Prim.Native.Nat.{ℕ, _+_, _≤_, _<_, min}
+use Prim.Native.Nat.{ℕ, _≤_, _<_}
 use mathlib.Core.Path.{_≡_, refl, sym, ap, _∙_}
-use mathlib.Core.Bool.{Bool, cond}
-use mathlib.Core.List.{List, [], _++_}
+use mathlib.Core.List.{List, _++_}
 use native.Mathlib.Omega.{arith}
 use lib.ListN.{length, take, drop}
 use lib.Seq.{take-append-seam}
 use lib.Dec.{leb}
 use Rattle.laws.proofs.Tests.{by-test}
-use Rattle.def_refusals.specs.declared.Refusal.{Refusal}
-use Rattle.def_refusals.specs.declared.Refusal.the-variants.{NoRoom}
-use Rattle.def_refusals.specs.declared.Answer.{Answer}
-use Rattle.def_refusals.specs.declared.Answer.the-variants.{Done, Refused}
+use Rattle.def_refusals.specs.declared.Answer.the-variants.{Done}
 use Rattle.def_refusals.specs.declared.Checked.{Checked}
 use Rattle.def_refusals.specs.declared.Checked.the-variants.{Fine, Unfit}
 use Rattle.def_refusals.specs.Answers.{Or, shown, refused, onFine, answerOf, filledOf, Listed}
@@ -30,7 +26,7 @@ use Rattle.def_cursor.specs.declared.Cursor.{Cursor}
 use Rattle.def_cursor.specs.declared.Stretch.{Stretch}
 use Rattle.def_cursor.specs.declared.Advanced.the-variants.{Moved}
 use Rattle.def_cursor.specs.Cursor.{start, takenBy, afterSteps, listedBy, stepsLeft, stretchOf, advanceTo, leftTo, advanceFault}
-use Rattle.def_cursor.specs.Cursor.{advanceOf, stretchFilled, Stretched, StretchedIn}
+use Rattle.def_cursor.specs.Cursor.{advanceOf, stretchFilled, Stretched}
 use Rattle.cursor.proofs.LegalLaws.{legal-start}
 use Rattle.cursor.proofs.StepsLaws.{taken-none, listed-zero, taken-add, listed-add}
 use Rattle.cursor.proofs.CursorLaws.{taken-least, all-numbers, rest-start}

@@ -21,37 +21,10 @@ says : (b : tie.After-block-length)
 says b = let h = b .before .before .before .before .before .before in
     length-taken (h .before .before .args .v .now) _ (h .header-data .ensures) _ (b .block-length .ensures .0)
 
-header-data-requires : tie.Need-header-data-requires
-header-data-requires c κs = search needs
-
-block-type-requires : tie.Need-block-type-requires
-block-type-requires c κs = search needs
-
-kind-type-requires : tie.Need-kind-type-requires
-kind-type-requires c κs = search needs
-
-cast-t8 : tie.Need-cast-t8
-cast-t8 c = search needs
-
 returns : tie.Need-returns
 returns c = let k = c .before in
     let a = k .before .before .before .before .args in
     rw (type-is k) (check-other (a .r) (a .k) (a .v .now) (λ q. c .if1 .taken (type-is k ∙ q ∙ sym (k .kind-type .ensures))))
-
-enum-told : tie.Need-enum-told
-enum-told c = search needs
-
-standard-rule-requires : tie.Need-standard-rule-requires
-standard-rule-requires c κs = search needs
-
-enum-told-2 : tie.Need-enum-told-2
-enum-told-2 c = search needs
-
-block-length-requires : tie.Need-block-length-requires
-block-length-requires c κs = search needs
-
-crate-rule-requires : tie.Need-crate-rule-requires
-crate-rule-requires c κs = search needs
 
 returns-2 : tie.Need-returns-2
 returns-2 c = let e = c .before in
@@ -71,16 +44,6 @@ returns-3 c = let b = c .before in
 pub check-spec : {M : Type 1} → statement M
 check-spec =
     tie.close
-    (tie.spec
-    header-data-requires
-    block-type-requires
-    kind-type-requires
-    cast-t8
-    returns
-    enum-told
-    standard-rule-requires
-    enum-told-2
-    block-length-requires
-    crate-rule-requires
-    returns-2
-    returns-3)
+    (tie.spec (λ c κs. search needs) (λ c κs. search needs) (λ c κs. search needs) (λ c. search needs) returns
+    (λ c. search needs) (λ c κs. search needs) (λ c. search needs) (λ c κs. search needs) (λ c κs. search needs)
+    returns-2 returns-3)

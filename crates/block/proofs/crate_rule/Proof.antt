@@ -5,41 +5,11 @@ use borrow.Author.Needs.{needs}
 use Rattle.block.proofs.crate_rule.Statement.{statement}
 use Rattle.block.proofs.crate_rule.Tie as tie
 
-enum-known-k : tie.Need-enum-known-k
-enum-known-k c = search needs
-
-enum-told : tie.Need-enum-told
-enum-told c = search needs
-
-rule-requires : tie.Need-rule-requires
-rule-requires c κs = search needs
-
-enum-told-2 : tie.Need-enum-told-2
-enum-told-2 c = search needs
-
-enum-told-3 : tie.Need-enum-told-3
-enum-told-3 c = search needs
-
-rule-requires-2 : tie.Need-rule-requires-2
-rule-requires-2 c κs = search needs
-
-enum-told-4 : tie.Need-enum-told-4
-enum-told-4 c = search needs
-
-add-rule : tie.Need-add-rule
-add-rule c = search needs
-
-rule-requires-3 : tie.Need-rule-requires-3
-rule-requires-3 c κs = search needs
-
 returns : tie.Need-returns
 returns c = let t = c .before in
     let e = t .before in
     let a = e .before .before .args in
     c .rule3 .ensures ∙ crate-echoes (a .k) (a .l) (a .left) (e .enum-told4 .given .1) (t .if1 .taken)
-
-rule-requires-4 : tie.Need-rule-requires-4
-rule-requires-4 c κs = search needs
 
 returns-2 : tie.Need-returns-2
 returns-2 c = let t = c .before in
@@ -67,19 +37,6 @@ returns-5 c = let t = c .before in
 pub crate-rule-spec : {M : Type 1} → statement M
 crate-rule-spec =
     tie.close
-    (tie.spec
-    enum-known-k
-    enum-told
-    rule-requires
-    enum-told-2
-    enum-told-3
-    rule-requires-2
-    enum-told-4
-    add-rule
-    rule-requires-3
-    returns
-    rule-requires-4
-    returns-2
-    returns-3
-    returns-4
-    returns-5)
+    (tie.spec (λ c. search needs) (λ c. search needs) (λ c κs. search needs) (λ c. search needs) (λ c. search needs)
+    (λ c κs. search needs) (λ c. search needs) (λ c. search needs) (λ c κs. search needs) returns
+    (λ c κs. search needs) returns-2 returns-3 returns-4 returns-5)

@@ -6,27 +6,12 @@ use borrow.Author.Needs.{needs}
 use Rattle.block.proofs.fields.Statement.{statement}
 use Rattle.block.proofs.fields.Tie as tie
 
-check-requires : tie.Need-check-requires
-check-requires c κs = search needs
-
-enum-told : tie.Need-enum-told
-enum-told c = search needs
-
-is-cut-requires : tie.Need-is-cut-requires
-is-cut-requires c κs = search needs
-
 returns : tie.Need-returns
 returns c = let k = c .before in
     let t = k .before in
     let h = t .before .before in
     let a = h .before .before .args in
     fields-cut (a .r) (a .g) (a .v .now) (sym (h .check .ensures) ∙ t .enum-told .given .1) (sym (k .is-cut .ensures) ∙ c .if1 .taken)
-
-fields-at-requires : tie.Need-fields-at-requires
-fields-at-requires c κs = search needs
-
-enum-known-x : tie.Need-enum-known-x
-enum-known-x c = search needs
 
 returns-2 : tie.Need-returns-2
 returns-2 c = let k = c .before .before in
@@ -45,12 +30,5 @@ returns-3 c = let x = c .before in
 pub fields-spec : {M : Type 1} → statement M
 fields-spec =
     tie.close
-    (tie.spec
-    check-requires
-    enum-told
-    is-cut-requires
-    returns
-    fields-at-requires
-    enum-known-x
-    returns-2
-    returns-3)
+    (tie.spec (λ c κs. search needs) (λ c. search needs) (λ c κs. search needs) returns (λ c κs. search needs)
+    (λ c. search needs) returns-2 returns-3)

@@ -6,21 +6,6 @@ use Rattle.def_wire.specs.Block.{specificOf}
 use Rattle.xr.proofs.HeaderBytes.{specific-taken}
 use Rattle.block.proofs.fields_at.Tie as tie
 
-header-data-requires : tie.Need-header-data-requires
-header-data-requires c κs = search needs
-
-u32-from-be-bytes-requires : tie.Need-u32-from-be-bytes-requires
-u32-from-be-bytes-requires c κs = search needs
-
-u16-from-be-bytes-requires : tie.Need-u16-from-be-bytes-requires
-u16-from-be-bytes-requires c κs = search needs
-
-u16-from-be-bytes-requires-2 : tie.Need-u16-from-be-bytes-requires-2
-u16-from-be-bytes-requires-2 c κs = search needs
-
-type-specific-byte-requires : tie.Need-type-specific-byte-requires
-type-specific-byte-requires c κs = search needs
-
 returns : tie.Need-returns
 returns c = let h = c .before .before .before .before in
     let v = h .before .before .args .v .now in
@@ -30,10 +15,5 @@ returns c = let h = c .before .before .before .before in
 pub fields-at-spec : {M : Type 1} → statement M
 fields-at-spec =
     tie.close
-    (tie.spec
-    header-data-requires
-    u32-from-be-bytes-requires
-    u16-from-be-bytes-requires
-    u16-from-be-bytes-requires-2
-    type-specific-byte-requires
-    returns)
+    (tie.spec (λ c κs. search needs) (λ c κs. search needs) (λ c κs. search needs) (λ c κs. search needs)
+    (λ c κs. search needs) returns)

@@ -4,18 +4,6 @@ use borrow.Author.Needs.{needs}
 use Rattle.block.proofs.is_cut.Statement.{statement}
 use Rattle.block.proofs.is_cut.Tie as tie
 
-enum-told : tie.Need-enum-told
-enum-told c = search needs
-
-enum-told-2 : tie.Need-enum-told-2
-enum-told-2 c = search needs
-
-enum-told-3 : tie.Need-enum-told-3
-enum-told-3 c = search needs
-
-enum-told-4 : tie.Need-enum-told-4
-enum-told-4 c = search needs
-
 returns : tie.Need-returns
 returns c = let a = c .before .before .args in cut-standard (a .r) (a .g) (a .left) (c .enum-told .given .1)
 
@@ -31,4 +19,6 @@ returns-3 c = let e = c .before .before in
 
 pub is-cut-spec : {M : Type 1} → statement M
 is-cut-spec =
-    tie.close (tie.spec enum-told enum-told-2 enum-told-3 enum-told-4 returns returns-2 returns-3)
+    tie.close
+    (tie.spec (λ c. search needs) (λ c. search needs) (λ c. search needs) (λ c. search needs) returns returns-2
+    returns-3)

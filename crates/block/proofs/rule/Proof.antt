@@ -9,4 +9,5 @@ returns-2 : tie.Need-returns-2
 returns-2 c = rw (c .if1 .left)
 
 pub rule-spec : {M : Type 1} → statement M
-rule-spec = tie.close (tie.spec returns returns-2)
+rule-spec =
+    tie.close (tie.spec returns returns-2)

@@ -5,33 +5,6 @@ use borrow.Author.Needs.{needs}
 use Rattle.block.proofs.standard_rule.Statement.{statement}
 use Rattle.block.proofs.standard_rule.Tie as tie
 
-enum-told : tie.Need-enum-told
-enum-told c = search needs
-
-rule-requires : tie.Need-rule-requires
-rule-requires c κs = search needs
-
-enum-told-2 : tie.Need-enum-told-2
-enum-told-2 c = search needs
-
-rule-requires-2 : tie.Need-rule-requires-2
-rule-requires-2 c κs = search needs
-
-enum-told-3 : tie.Need-enum-told-3
-enum-told-3 c = search needs
-
-above-requires : tie.Need-above-requires
-above-requires c κs = search needs
-
-sub-rule : tie.Need-sub-rule
-sub-rule c = search needs
-
-add-rule : tie.Need-add-rule
-add-rule c = search needs
-
-rule-requires-3 : tie.Need-rule-requires-3
-rule-requires-3 c κs = search needs
-
 returns : tie.Need-returns
 returns c = let e = c .before in
     let a = e .before .before .args in
@@ -51,16 +24,5 @@ returns-3 c = let o = c .before in
 pub standard-rule-spec : {M : Type 1} → statement M
 standard-rule-spec =
     tie.close
-    (tie.spec
-    enum-told
-    rule-requires
-    enum-told-2
-    rule-requires-2
-    enum-told-3
-    above-requires
-    sub-rule
-    add-rule
-    rule-requires-3
-    returns
-    returns-2
-    returns-3)
+    (tie.spec (λ c. search needs) (λ c κs. search needs) (λ c. search needs) (λ c κs. search needs) (λ c. search needs)
+    (λ c κs. search needs) (λ c. search needs) (λ c. search needs) (λ c κs. search needs) returns returns-2 returns-3)

@@ -5,18 +5,6 @@ use borrow.Author.Needs.{needs}
 use Rattle.block.proofs.time.Statement.{statement}
 use Rattle.block.proofs.time.Tie as tie
 
-check-requires : tie.Need-check-requires
-check-requires c κs = search needs
-
-enum-told : tie.Need-enum-told
-enum-told c = search needs
-
-u64-from-be-bytes-requires : tie.Need-u64-from-be-bytes-requires
-u64-from-be-bytes-requires c κs = search needs
-
-enum-known-x : tie.Need-enum-known-x
-enum-known-x c = search needs
-
 returns : tie.Need-returns
 returns c = let t = c .before in
     let h = t .before .before in
@@ -32,4 +20,4 @@ returns-2 c = let x = c .before in
 pub time-spec : {M : Type 1} → statement M
 time-spec =
     tie.close
-    (tie.spec check-requires enum-told u64-from-be-bytes-requires enum-known-x returns returns-2)
+    (tie.spec (λ c κs. search needs) (λ c. search needs) (λ c κs. search needs) (λ c. search needs) returns returns-2)

@@ -8,21 +8,6 @@ use borrow.Author.Needs.{needs}
 use Rattle.block.proofs.time_in.Statement.{statement}
 use Rattle.block.proofs.time_in.Tie as tie
 
-locate-requires : tie.Need-locate-requires
-locate-requires c κs = search needs
-
-enum-known-at : tie.Need-enum-known-at
-enum-known-at c = search needs
-
-part-requires : tie.Need-part-requires
-part-requires c κs = search needs
-
-time-requires : tie.Need-time-requires
-time-requires c κs = search needs
-
-enum-known-x : tie.Need-enum-known-x
-enum-known-x c = search needs
-
 returns : tie.Need-returns
 returns c = let q = c .before in
     let p = q .before .before in
@@ -40,11 +25,5 @@ returns-2 c = let p = c .before in
 pub time-in-spec : {M : Type 1} → statement M
 time-in-spec =
     tie.close
-    (tie.spec
-    locate-requires
-    enum-known-at
-    part-requires
-    time-requires
-    enum-known-x
-    returns
-    returns-2)
+    (tie.spec (λ c κs. search needs) (λ c. search needs) (λ c κs. search needs) (λ c κs. search needs)
+    (λ c. search needs) returns returns-2)

@@ -6,21 +6,6 @@ use borrow.Author.Needs.{needs}
 use Rattle.by_number.proofs.fields.Statement.{statement}
 use Rattle.by_number.proofs.fields.Tie as tie
 
-ranged-of-requires : tie.Need-ranged-of-requires
-ranged-of-requires c κs = search needs
-
-enum-known-g : tie.Need-enum-known-g
-enum-known-g c = search needs
-
-fields-in-requires : tie.Need-fields-in-requires
-fields-in-requires c κs = search needs
-
-enum-told : tie.Need-enum-told
-enum-told c = search needs
-
-other-requires : tie.Need-other-requires
-other-requires c κs = search needs
-
 returns : tie.Need-returns
 returns c = let g = c .before .before in
     let t = g .before .before in
@@ -36,11 +21,5 @@ returns-2 c = let e = c .before in
 pub fields-spec : {M : Type 1} → statement M
 fields-spec =
     tie.close
-    (tie.spec
-    ranged-of-requires
-    enum-known-g
-    fields-in-requires
-    enum-told
-    other-requires
-    returns
-    returns-2)
+    (tie.spec (λ c κs. search needs) (λ c. search needs) (λ c κs. search needs) (λ c. search needs)
+    (λ c κs. search needs) returns returns-2)

@@ -8,24 +8,6 @@ use borrow.Author.Needs.{needs}
 use Rattle.by_number.proofs.numbers.Statement.{statement}
 use Rattle.by_number.proofs.numbers.Tie as tie
 
-rle-of-requires : tie.Need-rle-of-requires
-rle-of-requires c κs = search needs
-
-enum-known-a : tie.Need-enum-known-a
-enum-known-a c = search needs
-
-numbers-in-requires : tie.Need-numbers-in-requires
-numbers-in-requires c κs = search needs
-
-enum-told : tie.Need-enum-told
-enum-told c = search needs
-
-other-requires : tie.Need-other-requires
-other-requires c κs = search needs
-
-same-length : tie.Need-same-length
-same-length c = search needs
-
 returns : tie.Need-returns
 returns c = let n = c .before .before in
     let g = n .before .before .before in
@@ -43,12 +25,5 @@ returns-2 c = let e = c .before in
 pub numbers-spec : {M : Type 1} → statement M
 numbers-spec =
     tie.close
-    (tie.spec
-    rle-of-requires
-    enum-known-a
-    numbers-in-requires
-    enum-told
-    other-requires
-    same-length
-    returns
-    returns-2)
+    (tie.spec (λ c κs. search needs) (λ c. search needs) (λ c κs. search needs) (λ c. search needs)
+    (λ c κs. search needs) (λ c. search needs) returns returns-2)

@@ -11,30 +11,6 @@ use borrow.Author.Needs.{needs}
 use Rattle.by_number.proofs.numbers_view.Statement.{statement}
 use Rattle.by_number.proofs.numbers_view.Tie as tie
 
-rle-of-requires : tie.Need-rle-of-requires
-rle-of-requires c κs = search needs
-
-enum-known-a : tie.Need-enum-known-a
-enum-known-a c = search needs
-
-numbers-requires : tie.Need-numbers-requires
-numbers-requires c κs = search needs
-
-enum-told : tie.Need-enum-told
-enum-told c = search needs
-
-header-data-requires : tie.Need-header-data-requires
-header-data-requires c κs = search needs
-
-block-type-requires : tie.Need-block-type-requires
-block-type-requires c κs = search needs
-
-cast-t12 : tie.Need-cast-t12
-cast-t12 c = search needs
-
-same-length : tie.Need-same-length
-same-length c = search needs
-
 returns : tie.Need-returns
 returns c = let n = c .before .before in
     let g = n .before .before .before in
@@ -54,14 +30,5 @@ returns-2 c = let h = c .before in
 pub numbers-view-spec : {M : Type 1} → statement M
 numbers-view-spec =
     tie.close
-    (tie.spec
-    rle-of-requires
-    enum-known-a
-    numbers-requires
-    enum-told
-    header-data-requires
-    block-type-requires
-    cast-t12
-    same-length
-    returns
-    returns-2)
+    (tie.spec (λ c κs. search needs) (λ c. search needs) (λ c κs. search needs) (λ c. search needs)
+    (λ c κs. search needs) (λ c κs. search needs) (λ c. search needs) (λ c. search needs) returns returns-2)

@@ -9,27 +9,6 @@ use borrow.Author.Needs.{needs}
 use Rattle.by_number.proofs.other.Statement.{statement}
 use Rattle.by_number.proofs.other.Tie as tie
 
-locate-requires : tie.Need-locate-requires
-locate-requires c κs = search needs
-
-enum-known-at : tie.Need-enum-known-at
-enum-known-at c = search needs
-
-part-requires : tie.Need-part-requires
-part-requires c κs = search needs
-
-header-data-requires : tie.Need-header-data-requires
-header-data-requires c κs = search needs
-
-block-type-requires : tie.Need-block-type-requires
-block-type-requires c κs = search needs
-
-cast-t12 : tie.Need-cast-t12
-cast-t12 c = search needs
-
-enum-known-x : tie.Need-enum-known-x
-enum-known-x c = search needs
-
 returns : tie.Need-returns
 returns c = let h = c .before in
     let q = h .before in
@@ -48,13 +27,5 @@ returns-2 c = let p = c .before in
 pub other-spec : {M : Type 1} → statement M
 other-spec =
     tie.close
-    (tie.spec
-    locate-requires
-    enum-known-at
-    part-requires
-    header-data-requires
-    block-type-requires
-    cast-t12
-    enum-known-x
-    returns
-    returns-2)
+    (tie.spec (λ c κs. search needs) (λ c. search needs) (λ c κs. search needs) (λ c κs. search needs)
+    (λ c κs. search needs) (λ c. search needs) (λ c. search needs) returns returns-2)

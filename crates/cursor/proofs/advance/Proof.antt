@@ -7,29 +7,8 @@ use borrow.Author.Needs.{needs}
 use Rattle.cursor.proofs.advance.Statement.{statement}
 use Rattle.cursor.proofs.advance.Tie as tie
 
-check-requires : tie.Need-check-requires
-check-requires c κs = search needs
-
-enum-told : tie.Need-enum-told
-enum-told c = search needs
-
-fields-at-requires : tie.Need-fields-at-requires
-fields-at-requires c κs = search needs
-
-range-of-requires : tie.Need-range-of-requires
-range-of-requires c κs = search needs
-
-part-requires : tie.Need-part-requires
-part-requires c κs = search needs
-
 advance-words-requires : tie.Need-advance-words-requires
 advance-words-requires c κs = let r = c .before .before in rw (r .range-of .ensures) (range-fits (r .before .fields-at .result))
-
-enum-known-x : tie.Need-enum-known-x
-enum-known-x c = search needs
-
-same-length : tie.Need-same-length
-same-length c = search needs
 
 returns : tie.Need-returns
 returns c = let w = c .before .before in
@@ -50,14 +29,5 @@ returns-2 c = let x = c .before in
 pub advance-spec : {M : Type 1} → statement M
 advance-spec =
     tie.close
-    (tie.spec
-    check-requires
-    enum-told
-    fields-at-requires
-    range-of-requires
-    part-requires
-    advance-words-requires
-    enum-known-x
-    same-length
-    returns
-    returns-2)
+    (tie.spec (λ c κs. search needs) (λ c. search needs) (λ c κs. search needs) (λ c κs. search needs)
+    (λ c κs. search needs) advance-words-requires (λ c. search needs) (λ c. search needs) returns returns-2)

@@ -14,9 +14,6 @@ use Rattle.cursor.proofs.advance_words.Tie as tie
 stands : (c : tie.Else1) → let a = c .before .before .before .before .args in legal (words16 (a .bytes .now)) (a .c) ≡ true
 stands c = sym (c .before .is-legal .ensures) ∙ not-false _ (c .if1 .left)
 
-is-legal-requires : tie.Need-is-legal-requires
-is-legal-requires c κs = search needs
-
 returns : tie.Need-returns
 returns c = let k = c .before in
     let a = k .before .before .before .args in
@@ -32,9 +29,6 @@ go-requires c κs = let e = c .before in
     let s = e .before .before .before .before .before in
     (s .pre, (stands (e .before), omega (arith, e .if2 .left)))
 
-same-length : tie.Need-same-length
-same-length c = search needs
-
 returns-3 : tie.Need-returns-3
 returns-3 c = let r = c .before .before in
     let e = r .before .before in
@@ -43,4 +37,4 @@ returns-3 c = let r = c .before .before in
 
 pub advance-words-spec : {M : Type 1} → statement M
 advance-words-spec =
-    tie.close (tie.spec is-legal-requires returns returns-2 go-requires same-length returns-3)
+    tie.close (tie.spec (λ c κs. search needs) returns returns-2 go-requires (λ c. search needs) returns-3)

@@ -110,22 +110,10 @@ stored c k e h = let l = head (c .before .before .before .before .before) in
     rw (← fitting-all (length (l .loop .out)) (l .loop .n) (added l k) h, ← asked (c .before .before) k e)
     (c .put-places .ensures)
 
-doubled-requires : tie.Need-doubled-requires Inv-loop μ-loop
-doubled-requires c κs = search needs
-
-inside-count-requires : tie.Need-inside-count-requires Inv-loop μ-loop
-inside-count-requires c κs = search needs
-
 loop-holds : tie.Need-loop-holds Inv-loop μ-loop
 loop-holds c = let s = c .before .before .before .before in
     let a = s .args in
     (begin-going (s .pre .1 .0), start (omega (arith, s .pre .1 .1, listed-le (a .g) (words16 (a .bytes .now)) (a .budget) (a .c))))
-
-sub-taken : tie.Need-sub-taken Inv-loop μ-loop
-sub-taken c = search needs
-
-same-length : tie.Need-same-length Inv-loop μ-loop
-same-length c = search needs
 
 returns : tie.Need-returns Inv-loop μ-loop
 returns c = let l = c .before .before in
@@ -134,26 +122,8 @@ returns c = let l = c .before .before in
 word-at-requires : tie.Need-word-at-requires Inv-loop μ-loop
 word-at-requires c κs = has c
 
-steps-in-requires : tie.Need-steps-in-requires Inv-loop μ-loop
-steps-in-requires c κs = search needs
-
 sub-takes : tie.Need-sub-takes Inv-loop μ-loop
 sub-takes c = omega (arith, steps (c .before), placed (c .before .before .before))
-
-lesser-requires : tie.Need-lesser-requires Inv-loop μ-loop
-lesser-requires c κs = search needs
-
-above-requires : tie.Need-above-requires Inv-loop μ-loop
-above-requires c κs = search needs
-
-lesser-requires-2 : tie.Need-lesser-requires-2 Inv-loop μ-loop
-lesser-requires-2 c κs = search needs
-
-number-at-requires : tie.Need-number-at-requires Inv-loop μ-loop
-number-at-requires c κs = search needs
-
-put-places-requires : tie.Need-put-places-requires Inv-loop μ-loop
-put-places-requires c κs = search needs
 
 moved-requires : tie.Need-moved-requires Inv-loop μ-loop
 moved-requires c κs = let m = c .before .before .before .before .before .before .before .before in
@@ -161,9 +131,6 @@ moved-requires c κs = let m = c .before .before .before .before .before .before
     let l = head m in
     let w : m .before .before .before .word-at .result ≡ word l = m .before .before .before .word-at .ensures in
     (legal-position (words-of l) (l .loop .at) (l .loop .inv .0 .stands), rw w (omega (arith, c .if2 .taken, steps (m .before .before), placed e)), omega (arith, has e, length-pairUp 256 (entry l .args .bytes .now)))
-
-same-length-2 : tie.Need-same-length-2 Inv-loop μ-loop
-same-length-2 c = search needs
 
 returns-2 : tie.Need-returns-2 Inv-loop μ-loop
 returns-2 c = let t = c .before in
@@ -206,37 +173,13 @@ loop-again c = let t = c .before in
     let i = l .loop .inv .1 in
     rw n (goes e a (t .if2 .left) (omega arith), wrote s (stored p a k (room-for (added l a) _ s i)) i)
 
-same-length-3 : tie.Need-same-length-3 Inv-loop μ-loop
-same-length-3 c = search needs
-
 returns-3 : tie.Need-returns-3 Inv-loop μ-loop
 returns-3 c = let l = c .before in gone-done (l .loop .inv .0) (entry l .args .g) (l .loop .inv .1) (c .loop-test .left)
 
 pub go-spec : {M : Type 1} → statement M
 go-spec =
     tie.close
-    (tie.spec
-    Inv-loop
-    μ-loop
-    doubled-requires
-    inside-count-requires
-    loop-holds
-    sub-taken
-    same-length
-    returns
-    word-at-requires
-    steps-in-requires
-    sub-takes
-    lesser-requires
-    above-requires
-    lesser-requires-2
-    number-at-requires
-    put-places-requires
-    moved-requires
-    same-length-2
-    returns-2
-    moved-requires-2
-    loop-less
-    loop-again
-    same-length-3
-    returns-3)
+    (tie.spec Inv-loop μ-loop (λ c κs. search needs) (λ c κs. search needs) loop-holds (λ c. search needs)
+    (λ c. search needs) returns word-at-requires (λ c κs. search needs) sub-takes (λ c κs. search needs)
+    (λ c κs. search needs) (λ c κs. search needs) (λ c κs. search needs) (λ c κs. search needs) moved-requires
+    (λ c. search needs) returns-2 moved-requires-2 loop-less loop-again (λ c. search needs) returns-3)

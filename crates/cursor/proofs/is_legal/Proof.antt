@@ -17,9 +17,6 @@ returns c = let a = c .before .before .before .args in
 word-at-requires : tie.Need-word-at-requires
 word-at-requires c κs = omega (arith, length-pairUp 256 (c .before .before .before .before .args .bytes .now), c .if2 .taken)
 
-steps-in-requires : tie.Need-steps-in-requires
-steps-in-requires c κs = search needs
-
 returns-2 : tie.Need-returns-2
 returns-2 c = let t = c .before .before .before in
     let a = t .before .before .before .before .args in
@@ -39,4 +36,4 @@ returns-4 c = let a = c .before .before .before .before .before .args in
 
 pub is-legal-spec : {M : Type 1} → statement M
 is-legal-spec =
-    tie.close (tie.spec returns word-at-requires steps-in-requires returns-2 returns-3 returns-4)
+    tie.close (tie.spec returns word-at-requires (λ c κs. search needs) returns-2 returns-3 returns-4)

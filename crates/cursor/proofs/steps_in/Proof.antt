@@ -8,12 +8,6 @@ use borrow.Author.Needs.{needs}
 use Rattle.cursor.proofs.steps_in.Statement.{statement}
 use Rattle.cursor.proofs.steps_in.Tie as tie
 
-covers-requires : tie.Need-covers-requires
-covers-requires c κs = search needs
-
-cast-covered : tie.Need-cast-covered
-cast-covered c = search needs
-
 returns : tie.Need-returns
 returns c = sym (steps-none (c .before .before .args .w) (sym (c .before .covers .ensures) ∙ c .if1 .taken))
 
@@ -23,4 +17,5 @@ returns-2 c = let w = c .before .before .args .w in
     c .before .covers .ensures ∙ sym (steps-some w h)
 
 pub steps-in-spec : {M : Type 1} → statement M
-steps-in-spec = tie.close (tie.spec covers-requires cast-covered returns returns-2)
+steps-in-spec =
+    tie.close (tie.spec (λ c κs. search needs) (λ c. search needs) returns returns-2)

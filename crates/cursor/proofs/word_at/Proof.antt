@@ -18,9 +18,6 @@ add-pair c = omega (arith, length-pairUp 256 (c .before .before .args .bytes .no
 shared-slice-read-pair-2 : tie.Need-shared-slice-read-pair-2
 shared-slice-read-pair-2 c = omega (arith, length-pairUp 256 (c .before .before .before .args .bytes .now), c .before .before .before .pre)
 
-pair-requires : tie.Need-pair-requires
-pair-requires c κs = search needs
-
 returns : tie.Need-returns
 returns c = let s = c .before .before .before .before in
     let b = s .args .bytes .now in
@@ -28,11 +25,4 @@ returns c = let s = c .before .before .before .before in
 
 pub word-at-spec : {M : Type 1} → statement M
 word-at-spec =
-    tie.close
-    (tie.spec
-    mul-at
-    shared-slice-read-pair
-    add-pair
-    shared-slice-read-pair-2
-    pair-requires
-    returns)
+    tie.close (tie.spec mul-at shared-slice-read-pair add-pair shared-slice-read-pair-2 (λ c κs. search needs) returns)

@@ -12,11 +12,9 @@ returns : tie.Need-returns
 returns c = let v = c .before .args .v .now in
     (let h : 0 ≡ (length v - 4) / 12 = omega arith in h) ∙ sym (length-entries v)
 
-sub-result : tie.Need-sub-result
-sub-result c = search needs
-
 returns-2 : tie.Need-returns-2
 returns-2 c = sym (length-entries (c .before .args .v .now))
 
 pub count-spec : {M : Type 1} → statement M
-count-spec = tie.close (tie.spec returns sub-result returns-2)
+count-spec =
+    tie.close (tie.spec returns (λ c. search needs) returns-2)

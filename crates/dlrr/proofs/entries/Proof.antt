@@ -9,21 +9,6 @@ use borrow.Author.Needs.{needs}
 use Rattle.dlrr.proofs.entries.Statement.{statement}
 use Rattle.dlrr.proofs.entries.Tie as tie
 
-check-requires : tie.Need-check-requires
-check-requires c κs = search needs
-
-enum-told : tie.Need-enum-told
-enum-told c = search needs
-
-count-requires : tie.Need-count-requires
-count-requires c κs = search needs
-
-lesser-requires : tie.Need-lesser-requires
-lesser-requires c κs = search needs
-
-lesser-requires-2 : tie.Need-lesser-requires-2
-lesser-requires-2 c κs = search needs
-
 returns : tie.Need-returns
 returns c = let r = c .before in
     let n = r .before .before in
@@ -31,21 +16,6 @@ returns c = let r = c .before in
     let h = t .before .before in
     let a = h .before .before .before .before .before .args in
     entries-full _ (a .ssrcs .now) (a .lasts .now) (a .delays .now) (entriesOf (a .v .now)) (n .count .result) (r .lesser2 .result) (entries-fine (a .r) (a .v .now) (sym (h .check .ensures) ∙ t .enum-told .given .1)) (n .count .ensures) (r .lesser2 .ensures ∙ ap (λ (x : ℕ). min x (length (a .delays .now))) (r .before .lesser .ensures)) (c .if1 .taken)
-
-store-requires : tie.Need-store-requires
-store-requires c κs = search needs
-
-enum-known-x : tie.Need-enum-known-x
-enum-known-x c = search needs
-
-same-length : tie.Need-same-length
-same-length c = search needs
-
-same-length-2 : tie.Need-same-length-2
-same-length-2 c = search needs
-
-same-length-3 : tie.Need-same-length-3
-same-length-3 c = search needs
 
 returns-2 : tie.Need-returns-2
 returns-2 c = let st = c .before .before .before .before .before .before in
@@ -66,17 +36,6 @@ returns-3 c = let x = c .before in
 pub entries-spec : {M : Type 1} → statement M
 entries-spec =
     tie.close
-    (tie.spec
-    check-requires
-    enum-told
-    count-requires
-    lesser-requires
-    lesser-requires-2
-    returns
-    store-requires
-    enum-known-x
-    same-length
-    same-length-2
-    same-length-3
-    returns-2
-    returns-3)
+    (tie.spec (λ c κs. search needs) (λ c. search needs) (λ c κs. search needs) (λ c κs. search needs)
+    (λ c κs. search needs) returns (λ c κs. search needs) (λ c. search needs) (λ c. search needs) (λ c. search needs)
+    (λ c. search needs) returns-2 returns-3)

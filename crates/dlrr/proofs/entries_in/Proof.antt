@@ -8,30 +8,6 @@ use borrow.Author.Needs.{needs}
 use Rattle.dlrr.proofs.entries_in.Statement.{statement}
 use Rattle.dlrr.proofs.entries_in.Tie as tie
 
-locate-requires : tie.Need-locate-requires
-locate-requires c κs = search needs
-
-enum-known-at : tie.Need-enum-known-at
-enum-known-at c = search needs
-
-part-requires : tie.Need-part-requires
-part-requires c κs = search needs
-
-entries-requires : tie.Need-entries-requires
-entries-requires c κs = search needs
-
-enum-known-x : tie.Need-enum-known-x
-enum-known-x c = search needs
-
-same-length : tie.Need-same-length
-same-length c = search needs
-
-same-length-2 : tie.Need-same-length-2
-same-length-2 c = search needs
-
-same-length-3 : tie.Need-same-length-3
-same-length-3 c = search needs
-
 returns : tie.Need-returns
 returns c = let e = c .before .before .before .before .before .before in
     let q = e .before .before .before .before in
@@ -53,14 +29,5 @@ returns-2 c = let p = c .before in
 pub entries-in-spec : {M : Type 1} → statement M
 entries-in-spec =
     tie.close
-    (tie.spec
-    locate-requires
-    enum-known-at
-    part-requires
-    entries-requires
-    enum-known-x
-    same-length
-    same-length-2
-    same-length-3
-    returns
-    returns-2)
+    (tie.spec (λ c κs. search needs) (λ c. search needs) (λ c κs. search needs) (λ c κs. search needs)
+    (λ c. search needs) (λ c. search needs) (λ c. search needs) (λ c. search needs) returns returns-2)

@@ -23,18 +23,12 @@ entry-requires c κs = let l = c .before in
     let a = b .args in
     whole (a .v .now) (a .ssrcs .now) (a .lasts .now) (a .delays .now) (a .n) (b .pre .0) (l .loop .ssrcs) (l .loop .lasts) (l .loop .delays) (l .loop .i) (l .loop .at) (l .loop .inv) (c .loop-test .taken)
 
-mul-ssrcs : tie.Need-mul-ssrcs Inv-loop μ-loop
-mul-ssrcs c = search needs
-
 slice-write-ssrcs : tie.Need-slice-write-ssrcs Inv-loop μ-loop
 slice-write-ssrcs c = let t = c .before .before .before in
     let l = t .before in
     let b = l .before .before .before .before .before in
     let a = b .args in
     room-ssrcs (a .v .now) (a .ssrcs .now) (a .lasts .now) (a .delays .now) (a .n) (b .pre .0) (l .loop .ssrcs) (l .loop .lasts) (l .loop .delays) (l .loop .i) (l .loop .at) (l .loop .inv) (t .loop-test .taken)
-
-mul-lasts : tie.Need-mul-lasts Inv-loop μ-loop
-mul-lasts c = search needs
 
 slice-write-lasts : tie.Need-slice-write-lasts Inv-loop μ-loop
 slice-write-lasts c = let t = c .before .before .before in
@@ -43,18 +37,12 @@ slice-write-lasts c = let t = c .before .before .before in
     let a = b .args in
     room-lasts (a .v .now) (a .ssrcs .now) (a .lasts .now) (a .delays .now) (a .n) (b .pre .0) (l .loop .ssrcs) (l .loop .lasts) (l .loop .delays) (l .loop .i) (l .loop .at) (l .loop .inv) (t .loop-test .taken)
 
-mul-delays : tie.Need-mul-delays Inv-loop μ-loop
-mul-delays c = search needs
-
 slice-write-delays : tie.Need-slice-write-delays Inv-loop μ-loop
 slice-write-delays c = let t = c .before .before .before in
     let l = t .before in
     let b = l .before .before .before .before .before in
     let a = b .args in
     room-delays (a .v .now) (a .ssrcs .now) (a .lasts .now) (a .delays .now) (a .n) (b .pre .0) (l .loop .ssrcs) (l .loop .lasts) (l .loop .delays) (l .loop .i) (l .loop .at) (l .loop .inv) (t .loop-test .taken)
-
-add-i : tie.Need-add-i Inv-loop μ-loop
-add-i c = search needs
 
 add-at : tie.Need-add-at Inv-loop μ-loop
 add-at c = let t = c .before .before .before in
@@ -63,9 +51,6 @@ add-at c = let t = c .before .before .before in
     let a = b .args in
     omega (arith, whole (a .v .now) (a .ssrcs .now) (a .lasts .now) (a .delays .now) (a .n) (b .pre .0) (l .loop .ssrcs) (l .loop .lasts) (l .loop .delays) (l .loop .i) (l .loop .at) (l .loop .inv) (t .loop-test .taken))
 
-loop-less : tie.Need-loop-less Inv-loop μ-loop
-loop-less c = search needs
-
 loop-again : tie.Need-loop-again Inv-loop μ-loop
 loop-again c = let e = c .before .before in
     let t = e .before in
@@ -73,15 +58,6 @@ loop-again c = let e = c .before .before in
     let b = l .before .before .before .before .before in
     let a = b .args in
     turned (a .v .now) (a .ssrcs .now) (a .lasts .now) (a .delays .now) (a .n) (b .pre .0) (l .loop .ssrcs) (l .loop .lasts) (l .loop .delays) (l .loop .i) (l .loop .at) (l .loop .inv) (t .loop-test .taken) (e .entry .result) (e .entry .ensures)
-
-same-length : tie.Need-same-length Inv-loop μ-loop
-same-length c = search needs
-
-same-length-2 : tie.Need-same-length-2 Inv-loop μ-loop
-same-length-2 c = search needs
-
-same-length-3 : tie.Need-same-length-3 Inv-loop μ-loop
-same-length-3 c = search needs
 
 returns : tie.Need-returns Inv-loop μ-loop
 returns c = let l = c .before in
@@ -92,22 +68,6 @@ returns c = let l = c .before in
 pub store-spec : {M : Type 1} → statement M
 store-spec =
     tie.close
-    (tie.spec
-    Inv-loop
-    μ-loop
-    loop-holds
-    entry-requires
-    mul-ssrcs
-    slice-write-ssrcs
-    mul-lasts
-    slice-write-lasts
-    mul-delays
-    slice-write-delays
-    add-i
-    add-at
-    loop-less
-    loop-again
-    same-length
-    same-length-2
-    same-length-3
-    returns)
+    (tie.spec Inv-loop μ-loop loop-holds entry-requires (λ c. search needs) slice-write-ssrcs (λ c. search needs)
+    slice-write-lasts (λ c. search needs) slice-write-delays (λ c. search needs) add-at (λ c. search needs) loop-again
+    (λ c. search needs) (λ c. search needs) (λ c. search needs) returns)

@@ -11,39 +11,6 @@ use borrow.Author.Needs.{needs}
 use Rattle.numbers.proofs.numbers.Statement.{statement}
 use Rattle.numbers.proofs.numbers.Tie as tie
 
-check-requires : tie.Need-check-requires
-check-requires c κs = search needs
-
-enum-told : tie.Need-enum-told
-enum-told c = search needs
-
-fields-at-requires : tie.Need-fields-at-requires
-fields-at-requires c κs = search needs
-
-word-bytes-requires : tie.Need-word-bytes-requires
-word-bytes-requires c κs = search needs
-
-enum-told-2 : tie.Need-enum-told-2
-enum-told-2 c = search needs
-
-range-of-requires : tie.Need-range-of-requires
-range-of-requires c κs = search needs
-
-fill-standard-requires : tie.Need-fill-standard-requires
-fill-standard-requires c κs = search needs
-
-enum-told-3 : tie.Need-enum-told-3
-enum-told-3 c = search needs
-
-fill-crate-requires : tie.Need-fill-crate-requires
-fill-crate-requires c κs = search needs
-
-enum-known-x : tie.Need-enum-known-x
-enum-known-x c = search needs
-
-same-length : tie.Need-same-length
-same-length c = search needs
-
 returns : tie.Need-returns
 returns c = let fs = c .before .before in
     let g = fs .before .before in
@@ -54,9 +21,6 @@ returns c = let fs = c .before .before in
     let a = h .before .before .before .args in
     let e = numbers-standard (a .r) (a .a) (a .v .now) (sym (h .check .ensures) ∙ f .before .enum-told .given .1) (f .fields-at .result) _ (f .fields-at .ensures) (w .word-bytes .ensures) (t .enum-told2 .given .1) in
     listed-as (ap (λ (q : Range). shown (numbersOf q (words16 (w .word-bytes .result .now)))) (g .range-of .ensures) ∙ e) (fs .fill-standard .ensures)
-
-same-length-2 : tie.Need-same-length-2
-same-length-2 c = search needs
 
 returns-2 : tie.Need-returns-2
 returns-2 c = let fs = c .before .before in
@@ -76,19 +40,6 @@ returns-3 c = let x = c .before in
 pub numbers-spec : {M : Type 1} → statement M
 numbers-spec =
     tie.close
-    (tie.spec
-    check-requires
-    enum-told
-    fields-at-requires
-    word-bytes-requires
-    enum-told-2
-    range-of-requires
-    fill-standard-requires
-    enum-told-3
-    fill-crate-requires
-    enum-known-x
-    same-length
-    returns
-    same-length-2
-    returns-2
-    returns-3)
+    (tie.spec (λ c κs. search needs) (λ c. search needs) (λ c κs. search needs) (λ c κs. search needs)
+    (λ c. search needs) (λ c κs. search needs) (λ c κs. search needs) (λ c. search needs) (λ c κs. search needs)
+    (λ c. search needs) (λ c. search needs) returns (λ c. search needs) returns-2 returns-3)

@@ -6,27 +6,6 @@ use borrow.Author.Needs.{needs}
 use Rattle.numbers.proofs.word_bytes.Statement.{statement}
 use Rattle.numbers.proofs.word_bytes.Tie as tie
 
-enum-told : tie.Need-enum-told
-enum-told c = search needs
-
-part-requires : tie.Need-part-requires
-part-requires c κs = search needs
-
-enum-told-2 : tie.Need-enum-told-2
-enum-told-2 c = search needs
-
-header-data-requires : tie.Need-header-data-requires
-header-data-requires c κs = search needs
-
-block-length-requires : tie.Need-block-length-requires
-block-length-requires c κs = search needs
-
-above-requires : tie.Need-above-requires
-above-requires c κs = search needs
-
-part-requires-2 : tie.Need-part-requires-2
-part-requires-2 c κs = search needs
-
 returns : tie.Need-returns
 returns c = let e = c .before in
     let a = e .before .before .before .args in
@@ -45,13 +24,5 @@ returns-2 c = let b = c .before in
 pub word-bytes-spec : {M : Type 1} → statement M
 word-bytes-spec =
     tie.close
-    (tie.spec
-    enum-told
-    part-requires
-    enum-told-2
-    header-data-requires
-    block-length-requires
-    above-requires
-    part-requires-2
-    returns
-    returns-2)
+    (tie.spec (λ c. search needs) (λ c κs. search needs) (λ c. search needs) (λ c κs. search needs)
+    (λ c κs. search needs) (λ c κs. search needs) (λ c κs. search needs) returns returns-2)

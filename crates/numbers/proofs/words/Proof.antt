@@ -6,24 +6,6 @@ use borrow.Author.Needs.{needs}
 use Rattle.numbers.proofs.words.Statement.{statement}
 use Rattle.numbers.proofs.words.Tie as tie
 
-check-requires : tie.Need-check-requires
-check-requires c κs = search needs
-
-enum-told : tie.Need-enum-told
-enum-told c = search needs
-
-word-bytes-requires : tie.Need-word-bytes-requires
-word-bytes-requires c κs = search needs
-
-fill-words-requires : tie.Need-fill-words-requires
-fill-words-requires c κs = search needs
-
-enum-known-x : tie.Need-enum-known-x
-enum-known-x c = search needs
-
-same-length : tie.Need-same-length
-same-length c = search needs
-
 returns : tie.Need-returns
 returns c = let fw = c .before .before in
     let w = fw .before .before in
@@ -41,12 +23,5 @@ returns-2 c = let x = c .before in
 pub words-spec : {M : Type 1} → statement M
 words-spec =
     tie.close
-    (tie.spec
-    check-requires
-    enum-told
-    word-bytes-requires
-    fill-words-requires
-    enum-known-x
-    same-length
-    returns
-    returns-2)
+    (tie.spec (λ c κs. search needs) (λ c. search needs) (λ c κs. search needs) (λ c κs. search needs)
+    (λ c. search needs) (λ c. search needs) returns returns-2)

@@ -6,21 +6,6 @@ use borrow.Author.Needs.{needs}
 use Rattle.packet_receipt_time.proofs.listable_of.Statement.{statement}
 use Rattle.packet_receipt_time.proofs.listable_of.Tie as tie
 
-enum-told : tie.Need-enum-told
-enum-told c = search needs
-
-range-of-requires : tie.Need-range-of-requires
-range-of-requires c κs = search needs
-
-inside-count-requires : tie.Need-inside-count-requires
-inside-count-requires c κs = search needs
-
-enum-told-2 : tie.Need-enum-told-2
-enum-told-2 c = search needs
-
-first-fail-requires : tie.Need-first-fail-requires
-first-fail-requires c κs = search needs
-
 returns : tie.Need-returns
 returns c = let g = c .before in
     let t = g .before in
@@ -35,11 +20,5 @@ returns-2 c = let t = c .before in
 pub listable-of-spec : {M : Type 1} → statement M
 listable-of-spec =
     tie.close
-    (tie.spec
-    enum-told
-    range-of-requires
-    inside-count-requires
-    enum-told-2
-    first-fail-requires
-    returns
-    returns-2)
+    (tie.spec (λ c. search needs) (λ c κs. search needs) (λ c κs. search needs) (λ c. search needs)
+    (λ c κs. search needs) returns returns-2)

@@ -52,27 +52,6 @@ asked c first step p q =
 long : (c : tie.After-lesser) (first step : ℕ) → c .lesser .result ≡ length (stepped step first (c .lesser .result) (times-of c))
 long c first step = omega (arith, counted c, length-stepped step first (c .lesser .result) (times-of c))
 
-check-requires : tie.Need-check-requires
-check-requires c κs = search needs
-
-enum-told : tie.Need-enum-told
-enum-told c = search needs
-
-fields-at-requires : tie.Need-fields-at-requires
-fields-at-requires c κs = search needs
-
-listable-of-requires : tie.Need-listable-of-requires
-listable-of-requires c κs = search needs
-
-times-count-requires : tie.Need-times-count-requires
-times-count-requires c κs = search needs
-
-lesser-requires : tie.Need-lesser-requires
-lesser-requires c κs = search needs
-
-lesser-requires-2 : tie.Need-lesser-requires-2
-lesser-requires-2 c κs = search needs
-
 returns : tie.Need-returns
 returns c = let m = c .before in
     let n = m .before in
@@ -80,27 +59,6 @@ returns c = let m = c .before in
     let first = numberOf (rangeOf (fieldsAt (v-of n))) 0 in
     let step = stepOf (fieldsAt (v-of n) .thinning) in
     pairs-full _ (a .numbers .now) (a .times .now) (stepped step first (n .lesser .result) (times-of n)) (n .lesser .result) (m .lesser2 .result) (asked n first step refl refl) (long n first step) (m .lesser2 .ensures) (c .if1 .taken)
-
-range-of-requires : tie.Need-range-of-requires
-range-of-requires c κs = search needs
-
-number-at-requires : tie.Need-number-at-requires
-number-at-requires c κs = search needs
-
-doubled-requires : tie.Need-doubled-requires
-doubled-requires c κs = search needs
-
-store-requires : tie.Need-store-requires
-store-requires c κs = search needs
-
-enum-known-x : tie.Need-enum-known-x
-enum-known-x c = search needs
-
-same-length : tie.Need-same-length
-same-length c = search needs
-
-same-length-2 : tie.Need-same-length-2
-same-length-2 c = search needs
 
 returns-2 : tie.Need-returns-2
 returns-2 c = let st = c .before .before .before .before in
@@ -125,21 +83,7 @@ returns-3 c = let x = c .before in
 pub pairs-spec : {M : Type 1} → statement M
 pairs-spec =
     tie.close
-    (tie.spec
-    check-requires
-    enum-told
-    fields-at-requires
-    listable-of-requires
-    times-count-requires
-    lesser-requires
-    lesser-requires-2
-    returns
-    range-of-requires
-    number-at-requires
-    doubled-requires
-    store-requires
-    enum-known-x
-    same-length
-    same-length-2
-    returns-2
-    returns-3)
+    (tie.spec (λ c κs. search needs) (λ c. search needs) (λ c κs. search needs) (λ c κs. search needs)
+    (λ c κs. search needs) (λ c κs. search needs) (λ c κs. search needs) returns (λ c κs. search needs)
+    (λ c κs. search needs) (λ c κs. search needs) (λ c κs. search needs) (λ c. search needs) (λ c. search needs)
+    (λ c. search needs) returns-2 returns-3)

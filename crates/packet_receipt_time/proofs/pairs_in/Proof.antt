@@ -8,27 +8,6 @@ use borrow.Author.Needs.{needs}
 use Rattle.packet_receipt_time.proofs.pairs_in.Statement.{statement}
 use Rattle.packet_receipt_time.proofs.pairs_in.Tie as tie
 
-locate-requires : tie.Need-locate-requires
-locate-requires c κs = search needs
-
-enum-known-at : tie.Need-enum-known-at
-enum-known-at c = search needs
-
-part-requires : tie.Need-part-requires
-part-requires c κs = search needs
-
-pairs-requires : tie.Need-pairs-requires
-pairs-requires c κs = search needs
-
-enum-known-x : tie.Need-enum-known-x
-enum-known-x c = search needs
-
-same-length : tie.Need-same-length
-same-length c = search needs
-
-same-length-2 : tie.Need-same-length-2
-same-length-2 c = search needs
-
 returns : tie.Need-returns
 returns c = let e = c .before .before .before .before in
     let q = e .before .before .before in
@@ -50,13 +29,5 @@ returns-2 c = let p = c .before in
 pub pairs-in-spec : {M : Type 1} → statement M
 pairs-in-spec =
     tie.close
-    (tie.spec
-    locate-requires
-    enum-known-at
-    part-requires
-    pairs-requires
-    enum-known-x
-    same-length
-    same-length-2
-    returns
-    returns-2)
+    (tie.spec (λ c κs. search needs) (λ c. search needs) (λ c κs. search needs) (λ c κs. search needs)
+    (λ c. search needs) (λ c. search needs) (λ c. search needs) returns returns-2)

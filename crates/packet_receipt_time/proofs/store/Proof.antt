@@ -23,18 +23,12 @@ time-at-requires c κs = let l = c .before in
     let a = b .args in
     whole (a .v .now) (a .first) (a .step) (a .n) (a .numbers .now) (a .times .now) (b .pre .0) (l .loop .numbers) (l .loop .times) (l .loop .i) (l .loop .at) (l .loop .x) (l .loop .inv) (c .loop-test .taken)
 
-mul-numbers : tie.Need-mul-numbers Inv-loop μ-loop
-mul-numbers c = search needs
-
 slice-write-numbers : tie.Need-slice-write-numbers Inv-loop μ-loop
 slice-write-numbers c = let t = c .before in
     let l = t .before in
     let b = l .before .before .before .before in
     let a = b .args in
     room-numbers (a .v .now) (a .first) (a .step) (a .n) (a .numbers .now) (a .times .now) (b .pre .0) (l .loop .numbers) (l .loop .times) (l .loop .i) (l .loop .at) (l .loop .x) (l .loop .inv) (t .loop-test .taken)
-
-mul-times : tie.Need-mul-times Inv-loop μ-loop
-mul-times c = search needs
 
 slice-write-times : tie.Need-slice-write-times Inv-loop μ-loop
 slice-write-times c = let t = c .before in
@@ -43,21 +37,12 @@ slice-write-times c = let t = c .before in
     let a = b .args in
     room-times (a .v .now) (a .first) (a .step) (a .n) (a .numbers .now) (a .times .now) (b .pre .0) (l .loop .numbers) (l .loop .times) (l .loop .i) (l .loop .at) (l .loop .x) (l .loop .inv) (t .loop-test .taken)
 
-wrapping-add-u16-requires : tie.Need-wrapping-add-u16-requires Inv-loop μ-loop
-wrapping-add-u16-requires c κs = search needs
-
-add-i : tie.Need-add-i Inv-loop μ-loop
-add-i c = search needs
-
 add-at : tie.Need-add-at Inv-loop μ-loop
 add-at c = let t = c .before .before in
     let l = t .before in
     let b = l .before .before .before .before in
     let a = b .args in
     omega (arith, whole (a .v .now) (a .first) (a .step) (a .n) (a .numbers .now) (a .times .now) (b .pre .0) (l .loop .numbers) (l .loop .times) (l .loop .i) (l .loop .at) (l .loop .x) (l .loop .inv) (t .loop-test .taken))
-
-loop-less : tie.Need-loop-less Inv-loop μ-loop
-loop-less c = search needs
 
 loop-again : tie.Need-loop-again Inv-loop μ-loop
 loop-again c = let e = c .before in
@@ -66,12 +51,6 @@ loop-again c = let e = c .before in
     let b = l .before .before .before .before in
     let a = b .args in
     turned (a .v .now) (a .first) (a .step) (a .n) (a .numbers .now) (a .times .now) (b .pre .0) (l .loop .numbers) (l .loop .times) (l .loop .i) (l .loop .at) (l .loop .x) (l .loop .inv) (t .loop-test .taken) (e .time-at .result .0) (c .wrapping-add-u16 .result) (e .time-at .ensures) (c .wrapping-add-u16 .ensures)
-
-same-length : tie.Need-same-length Inv-loop μ-loop
-same-length c = search needs
-
-same-length-2 : tie.Need-same-length-2 Inv-loop μ-loop
-same-length-2 c = search needs
 
 returns : tie.Need-returns Inv-loop μ-loop
 returns c = let l = c .before in
@@ -82,20 +61,6 @@ returns c = let l = c .before in
 pub store-spec : {M : Type 1} → statement M
 store-spec =
     tie.close
-    (tie.spec
-    Inv-loop
-    μ-loop
-    loop-holds
-    time-at-requires
-    mul-numbers
-    slice-write-numbers
-    mul-times
-    slice-write-times
-    wrapping-add-u16-requires
-    add-i
-    add-at
-    loop-less
-    loop-again
-    same-length
-    same-length-2
-    returns)
+    (tie.spec Inv-loop μ-loop loop-holds time-at-requires (λ c. search needs) slice-write-numbers (λ c. search needs)
+    slice-write-times (λ c κs. search needs) (λ c. search needs) add-at (λ c. search needs) loop-again
+    (λ c. search needs) (λ c. search needs) returns)

@@ -12,12 +12,10 @@ returns : tie.Need-returns
 returns c = let v = c .before .args .v .now in
     (let e : 0 ≡ length (drop 12 v) / 4 = omega (arith, length-drop 12 v) in e) ∙ sym (length-words32 (drop 12 v))
 
-sub-result : tie.Need-sub-result
-sub-result c = search needs
-
 returns-2 : tie.Need-returns-2
 returns-2 c = let v = c .before .args .v .now in
     (let e : (length v - 12) / 4 ≡ length (drop 12 v) / 4 = omega (arith, length-drop 12 v) in e) ∙ sym (length-words32 (drop 12 v))
 
 pub times-count-spec : {M : Type 1} → statement M
-times-count-spec = tie.close (tie.spec returns sub-result returns-2)
+times-count-spec =
+    tie.close (tie.spec returns (λ c. search needs) returns-2)

@@ -8,19 +8,8 @@ use Rattle.print.proofs.flush.Tie as tie
 slice-aggregate-write-all : tie.Need-slice-aggregate-write-all
 slice-aggregate-write-all c = sym (length-take-le (c .before .before .before .args .at) (c .before .before .before .args .buf .now) (c .before .if1 .taken))
 
-write-all-requires : tie.Need-write-all-requires
-write-all-requires c κs = search needs
-
-write-all-requires-2 : tie.Need-write-all-requires-2
-write-all-requires-2 c κs = search needs
-
-returns : tie.Need-returns
-returns c = search needs
-
-returns-2 : tie.Need-returns-2
-returns-2 c = search needs
-
 pub flush-spec : {M : Type 1} → statement M
 flush-spec =
     tie.close
-    (tie.spec slice-aggregate-write-all write-all-requires write-all-requires-2 returns returns-2)
+    (tie.spec slice-aggregate-write-all (λ c κs. search needs) (λ c κs. search needs) (λ c. search needs)
+    (λ c. search needs))

@@ -6,15 +6,6 @@ use borrow.Author.Needs.{needs}
 use Rattle.records.proofs.kind_of.Statement.{statement}
 use Rattle.records.proofs.kind_of.Tie as tie
 
-ranged-of-requires : tie.Need-ranged-of-requires
-ranged-of-requires c κs = search needs
-
-enum-known-g : tie.Need-enum-known-g
-enum-known-g c = search needs
-
-enum-told : tie.Need-enum-told
-enum-told c = search needs
-
 returns : tie.Need-returns
 unfolding kindOf
 returns c = let t = c .before in
@@ -39,4 +30,4 @@ returns-4 c = let e = c .before in
 pub kind-of-spec : {M : Type 1} → statement M
 kind-of-spec =
     tie.close
-    (tie.spec ranged-of-requires enum-known-g enum-told returns returns-2 returns-3 returns-4)
+    (tie.spec (λ c κs. search needs) (λ c. search needs) (λ c. search needs) returns returns-2 returns-3 returns-4)

@@ -6,15 +6,6 @@ use borrow.Author.Needs.{needs}
 use Rattle.records.proofs.ranged_of.Statement.{statement}
 use Rattle.records.proofs.ranged_of.Tie as tie
 
-rle-of-requires : tie.Need-rle-of-requires
-rle-of-requires c κs = search needs
-
-enum-known-a : tie.Need-enum-known-a
-enum-known-a c = search needs
-
-enum-told : tie.Need-enum-told
-enum-told c = search needs
-
 returns : tie.Need-returns
 unfolding rangedOf
 returns c = let t = c .before in
@@ -31,4 +22,4 @@ returns-3 c = let t = c .before in
 
 pub ranged-of-spec : {M : Type 1} → statement M
 ranged-of-spec =
-    tie.close (tie.spec rle-of-requires enum-known-a enum-told returns returns-2 returns-3)
+    tie.close (tie.spec (λ c κs. search needs) (λ c. search needs) (λ c. search needs) returns returns-2 returns-3)

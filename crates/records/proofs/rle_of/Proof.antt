@@ -17,4 +17,5 @@ unfolding rleOf
 returns-3 c = rw (ne-eqb _ _ (c .before .if1 .left), ne-eqb _ _ (c .if2 .left))
 
 pub rle-of-spec : {M : Type 1} → statement M
-rle-of-spec = tie.close (tie.spec returns returns-2 returns-3)
+rle-of-spec =
+    tie.close (tie.spec returns returns-2 returns-3)

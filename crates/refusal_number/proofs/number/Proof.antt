@@ -5,102 +5,6 @@ use borrow.Author.Needs.{needs}
 use Rattle.refusal_number.proofs.number.Statement.{statement}
 use Rattle.refusal_number.proofs.number.Tie as tie
 
-enum-known-x : tie.Need-enum-known-x
-enum-known-x c = search needs
-
-row-requires : tie.Need-row-requires
-row-requires c κs = search needs
-
-enum-told : tie.Need-enum-told
-enum-told c = search needs
-
-row-requires-2 : tie.Need-row-requires-2
-row-requires-2 c κs = search needs
-
-enum-told-2 : tie.Need-enum-told-2
-enum-told-2 c = search needs
-
-row-requires-3 : tie.Need-row-requires-3
-row-requires-3 c κs = search needs
-
-enum-known-x-2 : tie.Need-enum-known-x-2
-enum-known-x-2 c = search needs
-
-row-requires-4 : tie.Need-row-requires-4
-row-requires-4 c κs = search needs
-
-enum-known-x-3 : tie.Need-enum-known-x-3
-enum-known-x-3 c = search needs
-
-row-requires-5 : tie.Need-row-requires-5
-row-requires-5 c κs = search needs
-
-enum-known-x-4 : tie.Need-enum-known-x-4
-enum-known-x-4 c = search needs
-
-row-requires-6 : tie.Need-row-requires-6
-row-requires-6 c κs = search needs
-
-enum-known-x-5 : tie.Need-enum-known-x-5
-enum-known-x-5 c = search needs
-
-row-requires-7 : tie.Need-row-requires-7
-row-requires-7 c κs = search needs
-
-enum-known-x-6 : tie.Need-enum-known-x-6
-enum-known-x-6 c = search needs
-
-row-requires-8 : tie.Need-row-requires-8
-row-requires-8 c κs = search needs
-
-enum-known-x-7 : tie.Need-enum-known-x-7
-enum-known-x-7 c = search needs
-
-row-requires-9 : tie.Need-row-requires-9
-row-requires-9 c κs = search needs
-
-enum-known-x-8 : tie.Need-enum-known-x-8
-enum-known-x-8 c = search needs
-
-row-requires-10 : tie.Need-row-requires-10
-row-requires-10 c κs = search needs
-
-enum-told-3 : tie.Need-enum-told-3
-enum-told-3 c = search needs
-
-row-requires-11 : tie.Need-row-requires-11
-row-requires-11 c κs = search needs
-
-enum-known-x-9 : tie.Need-enum-known-x-9
-enum-known-x-9 c = search needs
-
-row-requires-12 : tie.Need-row-requires-12
-row-requires-12 c κs = search needs
-
-enum-known-x-10 : tie.Need-enum-known-x-10
-enum-known-x-10 c = search needs
-
-row-requires-13 : tie.Need-row-requires-13
-row-requires-13 c κs = search needs
-
-enum-known-x-11 : tie.Need-enum-known-x-11
-enum-known-x-11 c = search needs
-
-row-requires-14 : tie.Need-row-requires-14
-row-requires-14 c κs = search needs
-
-enum-known-x-12 : tie.Need-enum-known-x-12
-enum-known-x-12 c = search needs
-
-row-requires-15 : tie.Need-row-requires-15
-row-requires-15 c κs = search needs
-
-enum-known-x-13 : tie.Need-enum-known-x-13
-enum-known-x-13 c = search needs
-
-row-requires-16 : tie.Need-row-requires-16
-row-requires-16 c κs = search needs
-
 returns : tie.Need-returns
 unfolding numbered
 returns c = c .row .ensures ∙ sym (ap numbered (c .before .before .x .given .1))
@@ -168,52 +72,11 @@ returns-16 c = c .row16 .ensures ∙ sym (ap numbered (c .before .before .x13 .g
 pub number-spec : {M : Type 1} → statement M
 number-spec =
     tie.close
-    (tie.spec
-    enum-known-x
-    row-requires
-    enum-told
-    row-requires-2
-    enum-told-2
-    row-requires-3
-    enum-known-x-2
-    row-requires-4
-    enum-known-x-3
-    row-requires-5
-    enum-known-x-4
-    row-requires-6
-    enum-known-x-5
-    row-requires-7
-    enum-known-x-6
-    row-requires-8
-    enum-known-x-7
-    row-requires-9
-    enum-known-x-8
-    row-requires-10
-    enum-told-3
-    row-requires-11
-    enum-known-x-9
-    row-requires-12
-    enum-known-x-10
-    row-requires-13
-    enum-known-x-11
-    row-requires-14
-    enum-known-x-12
-    row-requires-15
-    enum-known-x-13
-    row-requires-16
-    returns
-    returns-2
-    returns-3
-    returns-4
-    returns-5
-    returns-6
-    returns-7
-    returns-8
-    returns-9
-    returns-10
-    returns-11
-    returns-12
-    returns-13
-    returns-14
-    returns-15
-    returns-16)
+    (tie.spec (λ c. search needs) (λ c κs. search needs) (λ c. search needs) (λ c κs. search needs) (λ c. search needs)
+    (λ c κs. search needs) (λ c. search needs) (λ c κs. search needs) (λ c. search needs) (λ c κs. search needs)
+    (λ c. search needs) (λ c κs. search needs) (λ c. search needs) (λ c κs. search needs) (λ c. search needs)
+    (λ c κs. search needs) (λ c. search needs) (λ c κs. search needs) (λ c. search needs) (λ c κs. search needs)
+    (λ c. search needs) (λ c κs. search needs) (λ c. search needs) (λ c κs. search needs) (λ c. search needs)
+    (λ c κs. search needs) (λ c. search needs) (λ c κs. search needs) (λ c. search needs) (λ c κs. search needs)
+    (λ c. search needs) (λ c κs. search needs) returns returns-2 returns-3 returns-4 returns-5 returns-6 returns-7
+    returns-8 returns-9 returns-10 returns-11 returns-12 returns-13 returns-14 returns-15 returns-16)

@@ -5,15 +5,6 @@ use borrow.Author.Needs.{needs}
 use Rattle.xport.proofs.fields.Statement.{statement}
 use Rattle.xport.proofs.fields.Tie as tie
 
-enum-known-a : tie.Need-enum-known-a
-enum-known-a c = search needs
-
-enum-known-a-2 : tie.Need-enum-known-a-2
-enum-known-a-2 c = search needs
-
-refusal-requires : tie.Need-refusal-requires
-refusal-requires c κs = search needs
-
 returns : tie.Need-returns
 unfolding flatFields
 returns c = sym (ap flatFields (c .before .a .given .1))
@@ -23,4 +14,5 @@ unfolding flatFields
 returns-2 c = ap (λ f. fieldsRow f noFields) (c .refusal .ensures) ∙ sym (ap flatFields (c .before .before .a2 .given .1))
 
 pub fields-spec : {M : Type 1} → statement M
-fields-spec = tie.close (tie.spec enum-known-a enum-known-a-2 refusal-requires returns returns-2)
+fields-spec =
+    tie.close (tie.spec (λ c. search needs) (λ c. search needs) (λ c κs. search needs) returns returns-2)

@@ -16,4 +16,5 @@ returns-4 : tie.Need-returns-4
 returns-4 c = let a = c .before .before .before .args in kind-vector (a .k) (a .value) (c .before .before .if1 .left) (c .before .if2 .left) (c .if3 .left)
 
 pub kind-spec : {M : Type 1} → statement M
-kind-spec = tie.close (tie.spec returns returns-2 returns-3 returns-4)
+kind-spec =
+    tie.close (tie.spec returns returns-2 returns-3 returns-4)

@@ -10,4 +10,5 @@ returns-2 : tie.Need-returns-2
 returns-2 c = reading-crate (c .before .args .r) (c .if1 .left)
 
 pub reading-spec : {M : Type 1} → statement M
-reading-spec = tie.close (tie.spec returns returns-2)
+reading-spec =
+    tie.close (tie.spec returns returns-2)

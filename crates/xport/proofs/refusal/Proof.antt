@@ -5,14 +5,9 @@ use borrow.Author.Needs.{needs}
 use Rattle.xport.proofs.refusal.Statement.{statement}
 use Rattle.xport.proofs.refusal.Tie as tie
 
-number-requires : tie.Need-number-requires
-number-requires c κs = search needs
-
-cast-t3 : tie.Need-cast-t3
-cast-t3 c = search needs
-
 returns : tie.Need-returns
 returns c = ap flatRow (c .before .number .ensures)
 
 pub refusal-spec : {M : Type 1} → statement M
-refusal-spec = tie.close (tie.spec number-requires cast-t3 returns)
+refusal-spec =
+    tie.close (tie.spec (λ c κs. search needs) (λ c. search needs) returns)

@@ -5,15 +5,6 @@ use borrow.Author.Needs.{needs}
 use Rattle.xport.proofs.time.Statement.{statement}
 use Rattle.xport.proofs.time.Tie as tie
 
-enum-known-a : tie.Need-enum-known-a
-enum-known-a c = search needs
-
-enum-known-a-2 : tie.Need-enum-known-a-2
-enum-known-a-2 c = search needs
-
-refusal-requires : tie.Need-refusal-requires
-refusal-requires c κs = search needs
-
 returns : tie.Need-returns
 unfolding flatTime
 returns c = sym (ap flatTime (c .before .a .given .1))
@@ -23,4 +14,5 @@ unfolding flatTime
 returns-2 c = c .refusal .ensures ∙ sym (ap flatTime (c .before .before .a2 .given .1))
 
 pub time-spec : {M : Type 1} → statement M
-time-spec = tie.close (tie.spec enum-known-a enum-known-a-2 refusal-requires returns returns-2)
+time-spec =
+    tie.close (tie.spec (λ c. search needs) (λ c. search needs) (λ c κs. search needs) returns returns-2)

@@ -6,22 +6,11 @@ use borrow.Author.Needs.{needs}
 use Rattle.xport.proofs.xr_chunk.Statement.{statement}
 use Rattle.xport.proofs.xr_chunk.Tie as tie
 
-kind-requires : tie.Need-kind-requires
-kind-requires c κs = search needs
-
-write-chunk-requires : tie.Need-write-chunk-requires
-write-chunk-requires c κs = search needs
-
-answer-requires : tie.Need-answer-requires
-answer-requires c κs = search needs
-
-same-length : tie.Need-same-length
-same-length c = search needs
-
 returns : tie.Need-returns
 returns c = let n = c .before .before .before in
     flat-listed (ap wordBytes (n .before .before .kind .ensures)) (n .write-chunk .ensures) (c .answer .ensures)
 
 pub xr-chunk-spec : {M : Type 1} → statement M
 xr-chunk-spec =
-    tie.close (tie.spec kind-requires write-chunk-requires answer-requires same-length returns)
+    tie.close
+    (tie.spec (λ c κs. search needs) (λ c κs. search needs) (λ c κs. search needs) (λ c. search needs) returns)

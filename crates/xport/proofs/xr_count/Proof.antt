@@ -6,19 +6,11 @@ use borrow.Author.Needs.{needs}
 use Rattle.xport.proofs.xr_count.Statement.{statement}
 use Rattle.xport.proofs.xr_count.Tie as tie
 
-reading-requires : tie.Need-reading-requires
-reading-requires c κs = search needs
-
-count-requires : tie.Need-count-requires
-count-requires c κs = search needs
-
-answer-requires : tie.Need-answer-requires
-answer-requires c κs = search needs
-
 returns : tie.Need-returns
 returns c = let k = c .before in
     let a = k .before .before .before .args in
     c .answer .ensures ∙ ap flatOf (k .count .ensures ∙ ap (λ q. countOf q (a .packet .now)) (k .before .reading .ensures))
 
 pub xr-count-spec : {M : Type 1} → statement M
-xr-count-spec = tie.close (tie.spec reading-requires count-requires answer-requires returns)
+xr-count-spec =
+    tie.close (tie.spec (λ c κs. search needs) (λ c κs. search needs) (λ c κs. search needs) returns)

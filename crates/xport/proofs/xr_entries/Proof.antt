@@ -6,24 +6,6 @@ use borrow.Author.Needs.{needs}
 use Rattle.xport.proofs.xr_entries.Statement.{statement}
 use Rattle.xport.proofs.xr_entries.Tie as tie
 
-reading-requires : tie.Need-reading-requires
-reading-requires c κs = search needs
-
-entries-in-requires : tie.Need-entries-in-requires
-entries-in-requires c κs = search needs
-
-answer-requires : tie.Need-answer-requires
-answer-requires c κs = search needs
-
-same-length : tie.Need-same-length
-same-length c = search needs
-
-same-length-2 : tie.Need-same-length-2
-same-length-2 c = search needs
-
-same-length-3 : tie.Need-same-length-3
-same-length-3 c = search needs
-
 returns : tie.Need-returns
 returns c = let n = c .before .before .before .before .before .before .before in
     let q = n .before .before .before .before in
@@ -33,11 +15,5 @@ returns c = let n = c .before .before .before .before .before .before .before in
 pub xr-entries-spec : {M : Type 1} → statement M
 xr-entries-spec =
     tie.close
-    (tie.spec
-    reading-requires
-    entries-in-requires
-    answer-requires
-    same-length
-    same-length-2
-    same-length-3
-    returns)
+    (tie.spec (λ c κs. search needs) (λ c κs. search needs) (λ c κs. search needs) (λ c. search needs)
+    (λ c. search needs) (λ c. search needs) returns)

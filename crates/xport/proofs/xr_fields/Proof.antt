@@ -6,19 +6,11 @@ use borrow.Author.Needs.{needs}
 use Rattle.xport.proofs.xr_fields.Statement.{statement}
 use Rattle.xport.proofs.xr_fields.Tie as tie
 
-reading-requires : tie.Need-reading-requires
-reading-requires c κs = search needs
-
-fields-requires : tie.Need-fields-requires
-fields-requires c κs = search needs
-
-fields-requires-2 : tie.Need-fields-requires-2
-fields-requires-2 c κs = search needs
-
 returns : tie.Need-returns
 returns c = let k = c .before in
     let a = k .before .before .before .args in
     c .fields2 .ensures ∙ ap flatFields (k .fields .ensures ∙ ap (λ q. fieldsBy q (a .packet .now) (a .k) (a .t)) (k .before .reading .ensures))
 
 pub xr-fields-spec : {M : Type 1} → statement M
-xr-fields-spec = tie.close (tie.spec reading-requires fields-requires fields-requires-2 returns)
+xr-fields-spec =
+    tie.close (tie.spec (λ c κs. search needs) (λ c κs. search needs) (λ c κs. search needs) returns)

@@ -6,19 +6,11 @@ use borrow.Author.Needs.{needs}
 use Rattle.xport.proofs.xr_locate.Statement.{statement}
 use Rattle.xport.proofs.xr_locate.Tie as tie
 
-reading-requires : tie.Need-reading-requires
-reading-requires c κs = search needs
-
-locate-requires : tie.Need-locate-requires
-locate-requires c κs = search needs
-
-located-requires : tie.Need-located-requires
-located-requires c κs = search needs
-
 returns : tie.Need-returns
 returns c = let k = c .before in
     let a = k .before .before .before .args in
     c .located .ensures ∙ ap flatLocated (k .locate .ensures ∙ ap (λ q. locate q (a .packet .now) (a .k)) (k .before .reading .ensures))
 
 pub xr-locate-spec : {M : Type 1} → statement M
-xr-locate-spec = tie.close (tie.spec reading-requires locate-requires located-requires returns)
+xr-locate-spec =
+    tie.close (tie.spec (λ c κs. search needs) (λ c κs. search needs) (λ c κs. search needs) returns)

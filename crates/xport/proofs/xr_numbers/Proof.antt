@@ -8,30 +8,6 @@ use borrow.Author.Needs.{needs}
 use Rattle.xport.proofs.xr_numbers.Statement.{statement}
 use Rattle.xport.proofs.xr_numbers.Tie as tie
 
-reading-requires : tie.Need-reading-requires
-reading-requires c κs = search needs
-
-header-requires : tie.Need-header-requires
-header-requires c κs = search needs
-
-enum-told : tie.Need-enum-told
-enum-told c = search needs
-
-numbers-requires : tie.Need-numbers-requires
-numbers-requires c κs = search needs
-
-answer-requires : tie.Need-answer-requires
-answer-requires c κs = search needs
-
-enum-known-x : tie.Need-enum-known-x
-enum-known-x c = search needs
-
-refusal-requires : tie.Need-refusal-requires
-refusal-requires c κs = search needs
-
-same-length : tie.Need-same-length
-same-length c = search needs
-
 returns : tie.Need-returns
 returns c = let n = c .before .before .before in
     let q = n .before .before .before .before .before in
@@ -53,14 +29,5 @@ returns-2 c = let p = c .before .before in
 pub xr-numbers-spec : {M : Type 1} → statement M
 xr-numbers-spec =
     tie.close
-    (tie.spec
-    reading-requires
-    header-requires
-    enum-told
-    numbers-requires
-    answer-requires
-    enum-known-x
-    refusal-requires
-    same-length
-    returns
-    returns-2)
+    (tie.spec (λ c κs. search needs) (λ c κs. search needs) (λ c. search needs) (λ c κs. search needs)
+    (λ c κs. search needs) (λ c. search needs) (λ c κs. search needs) (λ c. search needs) returns returns-2)

@@ -6,21 +6,6 @@ use borrow.Author.Needs.{needs}
 use Rattle.xport.proofs.xr_pairs.Statement.{statement}
 use Rattle.xport.proofs.xr_pairs.Tie as tie
 
-reading-requires : tie.Need-reading-requires
-reading-requires c κs = search needs
-
-pairs-in-requires : tie.Need-pairs-in-requires
-pairs-in-requires c κs = search needs
-
-answer-requires : tie.Need-answer-requires
-answer-requires c κs = search needs
-
-same-length : tie.Need-same-length
-same-length c = search needs
-
-same-length-2 : tie.Need-same-length-2
-same-length-2 c = search needs
-
 returns : tie.Need-returns
 returns c = let n = c .before .before .before .before .before in
     let q = n .before .before .before in
@@ -30,4 +15,5 @@ returns c = let n = c .before .before .before .before .before in
 pub xr-pairs-spec : {M : Type 1} → statement M
 xr-pairs-spec =
     tie.close
-    (tie.spec reading-requires pairs-in-requires answer-requires same-length same-length-2 returns)
+    (tie.spec (λ c κs. search needs) (λ c κs. search needs) (λ c κs. search needs) (λ c. search needs)
+    (λ c. search needs) returns)

@@ -6,19 +6,11 @@ use borrow.Author.Needs.{needs}
 use Rattle.xport.proofs.xr_time.Statement.{statement}
 use Rattle.xport.proofs.xr_time.Tie as tie
 
-reading-requires : tie.Need-reading-requires
-reading-requires c κs = search needs
-
-time-in-requires : tie.Need-time-in-requires
-time-in-requires c κs = search needs
-
-time-requires : tie.Need-time-requires
-time-requires c κs = search needs
-
 returns : tie.Need-returns
 returns c = let k = c .before in
     let a = k .before .before .before .args in
     c .time .ensures ∙ ap flatTime (k .time-in .ensures ∙ ap (λ q. timeAsked q (a .packet .now) (a .k)) (k .before .reading .ensures))
 
 pub xr-time-spec : {M : Type 1} → statement M
-xr-time-spec = tie.close (tie.spec reading-requires time-in-requires time-requires returns)
+xr-time-spec =
+    tie.close (tie.spec (λ c κs. search needs) (λ c κs. search needs) (λ c κs. search needs) returns)

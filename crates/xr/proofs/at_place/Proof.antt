@@ -4,18 +4,6 @@ use borrow.Author.Needs.{needs}
 use Rattle.xr.proofs.at_place.Statement.{statement}
 use Rattle.xr.proofs.at_place.Tie as tie
 
-enum-told : tie.Need-enum-told
-enum-told c = search needs
-
-length-at-requires : tie.Need-length-at-requires
-length-at-requires c κs = search needs
-
-enum-told-2 : tie.Need-enum-told-2
-enum-told-2 c = search needs
-
-sub-t7 : tie.Need-sub-t7
-sub-t7 c = search needs
-
 returns : tie.Need-returns
 returns c = let t = c .before in
     let a = t .before .before .before .args in
@@ -26,4 +14,5 @@ returns-2 c = let a = c .before .before .before .args in size-crate (a .r) (a .s
 
 pub at-place-spec : {M : Type 1} → statement M
 at-place-spec =
-    tie.close (tie.spec enum-told length-at-requires enum-told-2 sub-t7 returns returns-2)
+    tie.close
+    (tie.spec (λ c. search needs) (λ c κs. search needs) (λ c. search needs) (λ c. search needs) returns returns-2)

@@ -6,20 +6,11 @@ use borrow.Author.Needs.{needs}
 use Rattle.xr.proofs.count.Statement.{statement}
 use Rattle.xr.proofs.count.Tie as tie
 
-header-requires : tie.Need-header-requires
-header-requires c κs = search needs
-
-enum-known-stop : tie.Need-enum-known-stop
-enum-known-stop c = search needs
-
 walk-requires : tie.Need-walk-requires
 walk-requires c κs = let h = c .before .before .before in
     let a = h .before .before .args in
     let f = header-fine (a .r) (a .s .now) (c .before .stop .given .0 .0) (sym (h .header .ensures) ∙ c .before .stop .given .1) in
     (f .within, f .whole, f .least)
-
-enum-known-x : tie.Need-enum-known-x
-enum-known-x c = search needs
 
 returns : tie.Need-returns
 returns c = let k = c .before .before in
@@ -35,5 +26,4 @@ returns-2 c = let k = c .before in
 
 pub count-spec : {M : Type 1} → statement M
 count-spec =
-    tie.close
-    (tie.spec header-requires enum-known-stop walk-requires enum-known-x returns returns-2)
+    tie.close (tie.spec (λ c κs. search needs) (λ c. search needs) walk-requires (λ c. search needs) returns returns-2)

@@ -10,12 +10,6 @@ use borrow.Author.Needs.{needs}
 use Rattle.xr.proofs.find.Statement.{statement}
 use Rattle.xr.proofs.find.Tie as tie
 
-walk-requires : tie.Need-walk-requires
-walk-requires c κs = search needs
-
-enum-known-n : tie.Need-enum-known-n
-enum-known-n c = search needs
-
 at-place-requires : tie.Need-at-place-requires
 at-place-requires c κs = let n = c .before .before in
     let w = n .before .before in
@@ -36,9 +30,6 @@ returns c = let t = c .before in
     ∙ found-done (a .r) (a .s .now) (a .stop) (a .k) (n .n .given .0 .0) (sym (w .walk .ensures .counted) ∙ n .n .given .1)
     (t .if1 .taken)
 
-enum-known-n-2 : tie.Need-enum-known-n-2
-enum-known-n-2 c = search needs
-
 returns-2 : tie.Need-returns-2
 returns-2 c = let n = c .before .before in
     let w = n .before .before in
@@ -55,11 +46,5 @@ returns-3 c = let n = c .before in
 pub find-spec : {M : Type 1} → statement M
 find-spec =
     tie.close
-    (tie.spec
-    walk-requires
-    enum-known-n
-    at-place-requires
-    returns
-    enum-known-n-2
-    returns-2
+    (tie.spec (λ c κs. search needs) (λ c. search needs) at-place-requires returns (λ c. search needs) returns-2
     returns-3)

@@ -44,9 +44,6 @@ padded c =
     let e = m .before .before .before .before .before in
     header-padded (r-of (e .before)) (s-of (e .before)) (long e) (m .before .before .if2 .left) (m .before .if3 .left) (says f) (p .if5 .left) (good c)
 
-least-requires : tie.Need-least-requires
-least-requires c κs = search needs
-
 returns : tie.Need-returns
 returns c = let l = c .before in
     rw (l .least .ensures) (header-short (r-of l) (s-of l) (rw (l .least .ensures) at (c .if1 .taken)))
@@ -80,15 +77,6 @@ returns-5 c = let f = c .before in
     ap Done (sym (stop-plain (r-of (e .before)) (s-of (e .before)) (c .if5 .taken)))
     ∙ header-plain (r-of (e .before)) (s-of (e .before)) (long e) (m .before .before .if2 .left) (m .before .if3 .left) (says f) (c .if5 .taken)
 
-sub-wide8 : tie.Need-sub-wide8
-sub-wide8 c = search needs
-
-shared-slice-read-wide8 : tie.Need-shared-slice-read-wide8
-shared-slice-read-wide8 c = search needs
-
-wide8-requires : tie.Need-wide8-requires
-wide8-requires c κs = search needs
-
 is-bad-padding-requires : tie.Need-is-bad-padding-requires
 is-bad-padding-requires c κs = omega (arith, at-least-8 (c .before .before .before .before .before .before .before .before .before))
 
@@ -101,17 +89,11 @@ returns-6 c = let w = c .before .before in
     rw (w .wide8 .ensures .0)
     (header-padding (r-of (e .before)) (s-of (e .before)) (long e) (m .before .before .if2 .left) (m .before .if3 .left) (says f) (p .if5 .left) (rw (w .wide8 .ensures .0) at (sym (c .before .is-bad-padding .ensures) ∙ c .if6 .taken)))
 
-enum-told : tie.Need-enum-told
-enum-told c = search needs
-
 sub-t27 : tie.Need-sub-t27
 sub-t27 c = let o = c .before .before in
     let w = o .before .before in
     let e = w .before .before .before .before .before .before .before .before .before in
     omega (arith, w .wide8 .ensures .0, good-padding (paddingOf (s-of (e .before))) (length (s-of (e .before))) (good o) .1)
-
-enum-told-2 : tie.Need-enum-told-2
-enum-told-2 c = search needs
 
 returns-7 : tie.Need-returns-7
 returns-7 c = let o = c .before .before in
@@ -127,23 +109,6 @@ returns-8 c = let o = c .before .before in
 pub header-spec : {M : Type 1} → statement M
 header-spec =
     tie.close
-    (tie.spec
-    least-requires
-    returns
-    shared-slice-read-first
-    shared-slice-read-kind
-    returns-2
-    returns-3
-    length-at-requires
-    returns-4
-    returns-5
-    sub-wide8
-    shared-slice-read-wide8
-    wide8-requires
-    is-bad-padding-requires
-    returns-6
-    enum-told
-    sub-t27
-    enum-told-2
-    returns-7
-    returns-8)
+    (tie.spec (λ c κs. search needs) returns shared-slice-read-first shared-slice-read-kind returns-2 returns-3
+    length-at-requires returns-4 returns-5 (λ c. search needs) (λ c. search needs) (λ c κs. search needs)
+    is-bad-padding-requires returns-6 (λ c. search needs) sub-t27 (λ c. search needs) returns-7 returns-8)

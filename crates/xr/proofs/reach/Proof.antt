@@ -24,12 +24,6 @@ returns c = let l = c .before .before in
 length-at-requires : tie.Need-length-at-requires Inv-loop μ-loop
 length-at-requires c κs = let l = c .before .before in omega (arith, l .loop .inv .0 .word, l .loop .inv .0 .before, l .before .before .pre .0, l .before .before .pre .1, c .if1 .left)
 
-sub-if2 : tie.Need-sub-if2 Inv-loop μ-loop
-sub-if2 c = search needs
-
-sub-t10 : tie.Need-sub-t10 Inv-loop μ-loop
-sub-t10 c = search needs
-
 returns-2 : tie.Need-returns-2 Inv-loop μ-loop
 returns-2 c = let m = c .before in
     let l = m .before .before .before in
@@ -37,15 +31,6 @@ returns-2 c = let m = c .before in
     let a = s .args in
     rw (m .length-at .ensures .0)
     (unreached (a .s .now) (a .stop) (a .k) (l .loop .at) _ (cut (a .s .now) (a .stop) (s .pre .0) (l .loop .at) (l .loop .n) (l .loop .inv .0) (m .before .if1 .left) (rw (m .length-at .ensures .0) at (c .if2 .taken))))
-
-add-at : tie.Need-add-at Inv-loop μ-loop
-add-at c = search needs
-
-add-n : tie.Need-add-n Inv-loop μ-loop
-add-n c = search needs
-
-loop-less : tie.Need-loop-less Inv-loop μ-loop
-loop-less c = search needs
 
 loop-again : tie.Need-loop-again Inv-loop μ-loop
 loop-again c = let m = c .before in
@@ -63,17 +48,5 @@ returns-3 c = let l = c .before in
 pub reach-spec : {M : Type 1} → statement M
 reach-spec =
     tie.close
-    (tie.spec
-    Inv-loop
-    μ-loop
-    loop-holds
-    returns
-    length-at-requires
-    sub-if2
-    sub-t10
-    returns-2
-    add-at
-    add-n
-    loop-less
-    loop-again
-    returns-3)
+    (tie.spec Inv-loop μ-loop loop-holds returns length-at-requires (λ c. search needs) (λ c. search needs) returns-2
+    (λ c. search needs) (λ c. search needs) (λ c. search needs) loop-again returns-3)

@@ -6,21 +6,6 @@ use borrow.Author.Needs.{needs}
 use Rattle.xr.proofs.view.Statement.{statement}
 use Rattle.xr.proofs.view.Tie as tie
 
-locate-requires : tie.Need-locate-requires
-locate-requires c κs = search needs
-
-enum-known-at : tie.Need-enum-known-at
-enum-known-at c = search needs
-
-part-requires : tie.Need-part-requires
-part-requires c κs = search needs
-
-enum-told : tie.Need-enum-told
-enum-told c = search needs
-
-part-requires-2 : tie.Need-part-requires-2
-part-requires-2 c κs = search needs
-
 returns : tie.Need-returns
 returns c = let a = c .before .before in
     let l = a .before .before in
@@ -43,11 +28,5 @@ returns-2 c = let a = c .before in
 pub view-spec : {M : Type 1} → statement M
 view-spec =
     tie.close
-    (tie.spec
-    locate-requires
-    enum-known-at
-    part-requires
-    enum-told
-    part-requires-2
-    returns
-    returns-2)
+    (tie.spec (λ c κs. search needs) (λ c. search needs) (λ c κs. search needs) (λ c. search needs)
+    (λ c κs. search needs) returns returns-2)

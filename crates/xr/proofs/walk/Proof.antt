@@ -4,20 +4,11 @@ use borrow.Author.Needs.{needs}
 use Rattle.xr.proofs.walk.Statement.{statement}
 use Rattle.xr.proofs.walk.Tie as tie
 
-reach-requires : tie.Need-reach-requires
-reach-requires c κs = search needs
-
-enum-known-passed : tie.Need-enum-known-passed
-enum-known-passed c = search needs
-
 walk-on-requires : tie.Need-walk-on-requires
 walk-on-requires c κs = let p = c .before in
     let r = p .before .before in
     let s = r .before .before in
     (s .pre .0, s .pre .1, r .reach .ensures .at (p .passed .given .0 .0) (p .passed .given .1))
-
-enum-known-passed-2 : tie.Need-enum-known-passed-2
-enum-known-passed-2 c = search needs
 
 returns : tie.Need-returns
 returns c = let p = c .before .before in
@@ -34,10 +25,4 @@ returns-2 c = let p = c .before in
 pub walk-spec : {M : Type 1} → statement M
 walk-spec =
     tie.close
-    (tie.spec
-    reach-requires
-    enum-known-passed
-    walk-on-requires
-    enum-known-passed-2
-    returns
-    returns-2)
+    (tie.spec (λ c κs. search needs) (λ c. search needs) walk-on-requires (λ c. search needs) returns returns-2)

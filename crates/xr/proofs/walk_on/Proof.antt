@@ -37,12 +37,6 @@ returns c = let m = c .before in
     let h : a .stop - l .loop .at < lengthAt (a .s .now) (l .loop .at) = omega (arith, e, m .length-at .ensures .0, c .if1 .taken) in
     rw (m .length-at .ensures .0, e) (cut (a .s .now) (a .stop) (s .pre .0) (l .loop .at) (l .loop .n) (l .loop .inv .0) (more m) h)
 
-add-at : tie.Need-add-at Inv-loop μ-loop
-add-at c = search needs
-
-add-n : tie.Need-add-n Inv-loop μ-loop
-add-n c = search needs
-
 loop-less : tie.Need-loop-less Inv-loop μ-loop
 loop-less c = let m = c .before in omega (arith, m .length-at .ensures .0, c .if1 .left)
 
@@ -63,15 +57,5 @@ returns-2 c = let l = c .before in
 pub walk-on-spec : {M : Type 1} → statement M
 walk-on-spec =
     tie.close
-    (tie.spec
-    Inv-loop
-    μ-loop
-    sub-left
-    loop-holds
-    length-at-requires
-    returns
-    add-at
-    add-n
-    loop-less
-    loop-again
-    returns-2)
+    (tie.spec Inv-loop μ-loop sub-left loop-holds length-at-requires returns (λ c. search needs) (λ c. search needs)
+    loop-less loop-again returns-2)

@@ -5,18 +5,6 @@ use borrow.Author.Needs.{needs}
 use Rattle.xr.proofs.Xr.parse.Statement.{statement}
 use Rattle.xr.proofs.Xr.parse.Tie as tie
 
-count-requires : tie.Need-count-requires
-count-requires c κs = search needs
-
-enum-known-n : tie.Need-enum-known-n
-enum-known-n c = search needs
-
-u32-from-be-bytes-requires : tie.Need-u32-from-be-bytes-requires
-u32-from-be-bytes-requires c κs = search needs
-
-enum-known-x : tie.Need-enum-known-x
-enum-known-x c = search needs
-
 returns : tie.Need-returns
 unfolding parsedOf
 returns c = let n = c .before .before in
@@ -29,10 +17,4 @@ returns-2 c = let n = c .before in rw (sym (n .before .before .count .ensures) �
 pub parse-spec : {M : Type 1} → statement M
 parse-spec =
     tie.close
-    (tie.spec
-    count-requires
-    enum-known-n
-    u32-from-be-bytes-requires
-    enum-known-x
-    returns
-    returns-2)
+    (tie.spec (λ c κs. search needs) (λ c. search needs) (λ c κs. search needs) (λ c. search needs) returns returns-2)
