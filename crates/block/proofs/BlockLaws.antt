@@ -34,7 +34,8 @@ module _ (k : Kind) (l : ℕ) where
   unfolding standardRule
   standard-clock e = rw e
 
-  pub standard-echoes : k ≡ Echoes → (o : ℕ) → o ≡ l - 4 → rule (eqb (o % 12) 0) (l + (12 - o % 12) % 12) l ≡ standardRule k l
+  pub standard-echoes : k ≡ Echoes → (o : ℕ) → o ≡ l - 4
+      → rule (eqb (o % 12) 0) (l + (12 - o % 12) % 12) l ≡ standardRule k l
   unfolding standardRule
   standard-echoes e o q = rw (e, q)
 
@@ -78,7 +79,8 @@ module _ (r : Reading) (g : Ranged) (v : List ℕ) where
   unfolding fieldsOf
   fields-shown e k = rw (e, k)
 
-  pub fields-cut : checkOf r (Spans g) v ≡ Fine → isCut r g (length v) ≡ true → NoneOf (NoFields (length v)) ≡ fieldsOf r g v
+  pub fields-cut : checkOf r (Spans g) v ≡ Fine → isCut r g (length v) ≡ true
+      → NoneOf (NoFields (length v)) ≡ fieldsOf r g v
   unfolding fieldsOf
   fields-cut e k = rw (e, k)
 

@@ -78,9 +78,14 @@ kept (shown v) out = refl
 kept (refused x) out = refl
 
 module _ (s : List ℕ) (k t : ℕ) (c : Cursor) (budget : ℕ) (out : List ℕ) where
-  pub advance-served : (a : Rle) (r : Advanced) (out′ : List ℕ) → rleOf t ≡ AnRle a → StretchedIn s k a c budget out r out′
+  pub advance-served : (a : Rle) (r : Advanced) (out′ : List ℕ) → rleOf t ≡ AnRle a
+      → StretchedIn s k a c budget out r out′
       → StretchedBy s k t c budget out r out′
   advance-served a r out′ e p = record { answer = rw e (p .answer); filled = rw e (p .filled) }
 
   pub advance-other : rleOf t ≡ NoRle → StretchedBy s k t c budget out (Stuck (otherOf (viewOf Standard s k))) out
-  advance-other e = record { answer = rw e (stuck (viewOf Standard s k)); filled = rw e (kept (viewOf Standard s k) out) }
+  advance-other e = record {
+    answer = rw e (stuck (viewOf Standard s k));
+    filled = rw e
+        (kept (viewOf Standard s k) out);
+  }

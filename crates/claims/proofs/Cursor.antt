@@ -25,7 +25,8 @@ use Rattle.def_questions.specs.Packets.{numbersAsked}
 use Rattle.def_cursor.specs.declared.Cursor.{Cursor}
 use Rattle.def_cursor.specs.declared.Stretch.{Stretch}
 use Rattle.def_cursor.specs.declared.Advanced.the-variants.{Moved}
-use Rattle.def_cursor.specs.Cursor.{start, takenBy, afterSteps, listedBy, stepsLeft, stretchOf, advanceTo, leftTo, advanceFault}
+use Rattle.def_cursor.specs.Cursor.{start, takenBy, afterSteps, listedBy, stepsLeft, stretchOf, advanceTo, leftTo}
+use Rattle.def_cursor.specs.Cursor.{advanceFault}
 use Rattle.def_cursor.specs.Cursor.{advanceOf, stretchFilled, Stretched}
 use Rattle.cursor.proofs.LegalLaws.{legal-start}
 use Rattle.cursor.proofs.StepsLaws.{taken-none, listed-zero, taken-add, listed-add}
@@ -74,7 +75,8 @@ module _ (a : Rle) (v : List ℕ) where
       → (s ≡ stretchOf g ws c b) × (out′ ≡ listedBy g ws b c ++ drop (length (listedBy g ws b c)) out)
   unfolding advanceOf stretchFilled
   moved-stretch c b out out′ s p =
-      moved-fine (advanceFault a v c b (length out)) (stretchOf g ws c b) s (listedBy g ws b c) out out′ (p .answer) (p .filled)
+      moved-fine (advanceFault a v c b (length out)) (stretchOf g ws c b) s (listedBy g ws b c) out out′ (p .answer)
+      (p .filled)
 
   -- calls one after the other are one stretch of all their budgets
   calls-sum : {c : Cursor} {budgets taken : ℕ} {l : List ℕ} → Calls a v c budgets taken l
@@ -88,17 +90,21 @@ module _ (a : Rle) (v : List ℕ) where
       let h : take (s .listed) out′ ≡ listedBy g ws budget c =
       rw (n, m .1) (take-append-seam (listedBy g ws budget c) (drop (length (listedBy g ws budget c)) out)) in
       let i = calls-sum r in
-      let u : taken ≡ takenBy ws budgets (afterSteps ws budget c) = i .0 ∙ ap (λ (x : Cursor). takenBy ws budgets x) k in
-      let w : l ≡ listedBy g ws budgets (afterSteps ws budget c) = i .1 ∙ ap (λ (x : Cursor). listedBy g ws budgets x) k in
+      let u : taken ≡ takenBy ws budgets (afterSteps ws budget c) = i .0
+      ∙ ap (λ (x : Cursor). takenBy ws budgets x) k in
+      let w : l ≡ listedBy g ws budgets (afterSteps ws budget c) = i .1
+      ∙ ap (λ (x : Cursor). listedBy g ws budgets x) k in
       (rw (taken-add ws budgets budget c, j, u), rw (listed-add ws budgets g budget c, h, w))
 
   -- calls that took fewer steps than they were allowed list all numbers
-  calls-numbers : {budgets taken : ℕ} {l : List ℕ} → Calls a v start budgets taken l → taken < budgets → l ≡ standardNumbers v
+  calls-numbers : {budgets taken : ℕ} {l : List ℕ} → Calls a v start budgets taken l → taken < budgets
+      → l ≡ standardNumbers v
   calls-numbers {budgets} {taken} {l} p h =
       let i = calls-sum p in
       let e = legal-start ws in
       let enough : stepsLeft (drop 0 ws) 0 ≤ budgets = omega (arith, i .0, h, taken-least ws budgets start e) in
-      i .1 ∙ all-numbers g (range-fits (fieldsAt v)) ws budgets start e enough ∙ rest-start g (range-fits (fieldsAt v)) ws
+      i .1 ∙ all-numbers g (range-fits (fieldsAt v)) ws budgets start e enough
+      ∙ rest-start g (range-fits (fieldsAt v)) ws
 
 pub cursor-lists : CursorLists
 unfolding numbersShown
@@ -108,16 +114,19 @@ cursor-lists a v budgets taken l p h out out′ n q =
 -- ---- calls on a packet's block: its view is there, and the calls are calls on it
 
 view-there : (s : List ℕ) (k : ℕ) (a : Rle) (out out′ : List ℕ) (n : ℕ) (w : Or (List ℕ)) → viewOf Standard s k ≡ w
-    → Listed (numbersAsked Standard s k a) out (Done n) out′ → (P : Type 0) → ((v : List ℕ) → viewOf Standard s k ≡ shown v → P) → P
+    → Listed (numbersAsked Standard s k a) out (Done n) out′ → (P : Type 0)
+    → ((v : List ℕ) → viewOf Standard s k ≡ shown v → P) → P
 unfolding numbersAsked answerOf
 view-there s k a out out′ n (shown v) e q P f = f v e
 view-there s k a out out′ n (refused x) e q P f =
     absurd (let d = rw e at (q .answer) in let z : _≡_ {A = ℕ} 0 1 = cc in omega arith)
 
 module _ (s : List ℕ) (k : ℕ) (a : Rle) (v : List ℕ) (e : viewOf Standard s k ≡ shown v) where
-  calls-on-view : {c : Cursor} {budgets taken : ℕ} {l : List ℕ} → CallsIn s k a c budgets taken l → Calls a v c budgets taken l
+  calls-on-view : {c : Cursor} {budgets taken : ℕ} {l : List ℕ} → CallsIn s k a c budgets taken l
+      → Calls a v c budgets taken l
   calls-on-view ended-in = ended
-  calls-on-view (called-in p r) = called (record { answer = rw e at (p .answer); filled = rw e at (p .filled) }) (calls-on-view r)
+  calls-on-view (called-in p r) = called (record { answer = rw e at (p .answer); filled = rw e at (p .filled) })
+      (calls-on-view r)
 
 pub cursor-lists-in : CursorListsIn
 unfolding numbersAsked

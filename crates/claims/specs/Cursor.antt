@@ -1,6 +1,8 @@
 -- The number cursor gone through by calls (RULES, "Views, cursors and the dump").
---     Calls, CallsIn     calls one after the other, each from the cursor that the one before it gave, none refused: of `cursor::advance` on a
---                        block's view v, and of `cursor::advance_in` on block k of a packet s. Their indices: the first cursor, the budgets in
+--     Calls, CallsIn     calls one after the other, each from the cursor that the one before it gave, none refused:
+--                        of `cursor::advance` on a
+-- block's view v, and of `cursor::advance_in` on block k of a packet s. Their indices: the first cursor, the budgets
+-- in
 --                        sum, the steps taken in sum, and what they listed, joined
 --     CursorLists, CursorListsIn     what they come to
 -- Nothing is asked of a call but its contract; each lends a list of its own, out, and leaves out′ in it.
@@ -31,7 +33,8 @@ pub data CallsIn (s : List ℕ) (k : ℕ) (a : Rle) : Cursor → ℕ → ℕ →
       → StretchedIn s k a c budget out (Moved t) out′ → CallsIn s k a (t .next) budgets taken l
       → CallsIn s k a c (budget + budgets) (t .taken + taken) (take (t .listed) out′ ++ l)
 
--- calls from the start on that took fewer steps than their budgets allowed have come to the end: they list, whatever the budgets were, what
+-- calls from the start on that took fewer steps than their budgets allowed have come to the end: they list, whatever
+-- the budgets were, what
 -- `numbers::numbers` lists of the same view in the standard reading
 abbrev pub CursorLists : Type 0
 CursorLists =
@@ -41,5 +44,6 @@ CursorLists =
 -- and so of a packet: what `numbers::numbers_in` lists
 abbrev pub CursorListsIn : Type 0
 CursorListsIn =
-    (s : List ℕ) (k : ℕ) (a : Rle) (budgets taken : ℕ) (l : List ℕ) → CallsIn s k a start budgets taken l → taken < budgets
+    (s : List ℕ) (k : ℕ) (a : Rle) (budgets taken : ℕ) (l : List ℕ) → CallsIn s k a start budgets taken l
+    → taken < budgets
     → (out out′ : List ℕ) (n : ℕ) → Listed (numbersAsked Standard s k a) out (Done n) out′ → l ≡ take n out′

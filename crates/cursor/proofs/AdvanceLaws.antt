@@ -1,4 +1,5 @@
--- The ways in which a cursor's call ends: the one place that unfolds `advanceFault`, `advanceOf` and `stretchFilled`. Assumes nothing.
+-- The ways in which a cursor's call ends: the one place that unfolds `advanceFault`, `advanceOf` and `stretchFilled`.
+-- Assumes nothing.
 --     range-fits               no range has over 65,536 positions inside
 --     advancing-*              of words in a range: 16, 11, or a stretch
 --     stretched-*              of a block's view: 10 and 7, or the words
@@ -46,7 +47,8 @@ range-fits f = omega (arith, range-size f, inside-count-le (rangeOf f))
 
 -- the part that is lent behind the fields: all of the words' bytes
 pub words-behind : (v : List ℕ) → part v 12 (length v) ≡ drop 12 v
-words-behind v = take-all (length v) (drop 12 v) (let h : length (drop 12 v) ≤ length v = omega (arith, length-drop 12 v) in h)
+words-behind v = take-all (length v) (drop 12 v) (let h : length (drop 12 v) ≤ length v = omega
+    (arith, length-drop 12 v) in h)
 
 -- ---- words in a range
 
@@ -54,28 +56,37 @@ module _ (g : Range) (ws : List ℕ) (c : Cursor) (budget : ℕ) (out : List ℕ
   pub advancing-illegal : legal ws c ≡ false → Advancing g ws c budget out (Stuck NoPlace) out
   advancing-illegal e = record { answer = rw e; filled = rw e }
 
-  pub advancing-full : legal ws c ≡ true → length out < budget → Advancing g ws c budget out (Stuck (NoRoom budget (length out))) out
+  pub advancing-full : legal ws c ≡ true → length out < budget
+      → Advancing g ws c budget out (Stuck (NoRoom budget (length out))) out
   advancing-full e h = record { answer = rw (e, lt-leb _ _ h); filled = rw (e, lt-leb _ _ h) }
 
-  pub advancing-gone : (r : Stretch) (out′ : List ℕ) → legal ws c ≡ true → budget ≤ length out → Gone g ws c budget out r out′ → Advancing g ws c budget out (Moved r) out′
-  advancing-gone r out′ e h p = record { answer = rw (e, le-leb _ _ h) (ap Moved (p .answer)); filled = rw (e, le-leb _ _ h) (p .filled) }
+  pub advancing-gone : (r : Stretch) (out′ : List ℕ) → legal ws c ≡ true → budget ≤ length out
+      → Gone g ws c budget out r out′ → Advancing g ws c budget out (Moved r) out′
+  advancing-gone r out′ e h p = record {
+    answer = rw (e, le-leb _ _ h) (ap Moved (p .answer));
+    filled = rw
+        (e, le-leb _ _ h) (p .filled);
+  }
 
 -- ---- a block's view
 
 module _ (a : Rle) (v : List ℕ) (c : Cursor) (budget : ℕ) (out : List ℕ) where
-  pub stretched-fit : (r : Advanced) (out′ : List ℕ) → checkOf Standard (Spans (Chunks a)) v ≡ Fine → Advancing (rangeOf (fieldsAt v)) (standardWords v) c budget out r out′
+  pub stretched-fit : (r : Advanced) (out′ : List ℕ) → checkOf Standard (Spans (Chunks a)) v ≡ Fine
+      → Advancing (rangeOf (fieldsAt v)) (standardWords v) c budget out r out′
       → Stretched a v c budget out r out′
   unfolding advanceFault advanceOf stretchFilled
   stretched-fit r out′ e p = record { answer = rw e (p .answer); filled = rw e (p .filled) }
 
-  pub stretched-unfit : (x : Refusal) → checkOf Standard (Spans (Chunks a)) v ≡ Unfit x → Stretched a v c budget out (Stuck x) out
+  pub stretched-unfit : (x : Refusal) → checkOf Standard (Spans (Chunks a)) v ≡ Unfit x
+      → Stretched a v c budget out (Stuck x) out
   unfolding advanceFault advanceOf stretchFilled
   stretched-unfit x e = record { answer = rw e; filled = rw e }
 
 -- ---- a packet and a block's index
 
 module _ (s : List ℕ) (k : ℕ) (a : Rle) (c : Cursor) (budget : ℕ) (out : List ℕ) where
-  pub stretched-at : (at n : ℕ) (v : List ℕ) (r : Advanced) (out′ : List ℕ) → locate Standard s k ≡ At at n → v ≡ part s at n
+  pub stretched-at : (at n : ℕ) (v : List ℕ) (r : Advanced) (out′ : List ℕ) → locate Standard s k ≡ At at n
+      → v ≡ part s at n
       → Stretched a v c budget out r out′ → StretchedIn s k a c budget out r out′
   stretched-at at n v r out′ e q p =
       let f : Stretched a (part s at n) c budget out r out′ = rw q at p in

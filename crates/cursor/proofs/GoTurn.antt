@@ -1,5 +1,6 @@
 -- One turn of the cursor's loop: all steps in the word at hand. Assumes nothing.
---     Going       from the cursor c, `left` steps lead where the whole budget leads from the first cursor, and add up with those that were taken
+--     Going       from the cursor c, `left` steps lead where the whole budget leads from the first cursor, and add up
+--                 with those that were taken
 --     going-on    a turn
 --     gone-end    the words have ended; gone-done: the budget is used up
 use Prim.Native.Nat.{ℕ, _+_, _-_, min, _≤_, _<_}
@@ -18,7 +19,8 @@ use Rattle.def_cursor.specs.declared.Cursor.{Cursor}
 use Rattle.def_cursor.specs.Cursor.{stepsIn, wordAt, legal, takenBy, afterSteps, listedBy}
 use Rattle.cursor.specs.Steps.{placesIn, movedIn, Gone}
 use Rattle.cursor.proofs.LegalLaws.{legal-position, legal-place}
-use Rattle.cursor.proofs.StepsLaws.{taken-none, after-none, listed-zero, taken-end, after-end, listed-end, taken-add, after-add, listed-add}
+use Rattle.cursor.proofs.StepsLaws.{taken-none, after-none, listed-zero, taken-end, after-end, listed-end}
+use Rattle.cursor.proofs.StepsLaws.{taken-add, after-add, listed-add}
 use Rattle.cursor.proofs.WithinLaws.{taken-within, after-within, listed-within, legal-moved}
 use Rattle.cursor.proofs.PlacesLaws.{numbers-places}
 
@@ -39,7 +41,8 @@ module _ {ws : List ℕ} {c₀ : Cursor} {budget : ℕ} where
 
       -- m steps lead to the next cursor
       goes : afterSteps ws m c ≡ next
-      goes = after-within ws (c .word) h m (c .place) (c .position) (legal-position ws c (f .stands)) (legal-place ws c (f .stands) h) k
+      goes = after-within ws (c .word) h m (c .place) (c .position) (legal-position ws c (f .stands))
+          (legal-place ws c (f .stands) h) k
 
       all : m + (left - m) ≡ left
       all = omega arith
@@ -47,7 +50,11 @@ module _ {ws : List ℕ} {c₀ : Cursor} {budget : ℕ} where
       pub going-on : Going ws c₀ budget next (left - m)
       going-on =
           let t : takenBy ws (m + (left - m)) c ≡ m + takenBy ws (left - m) next =
-          taken-add ws (left - m) m c ∙ (rw (goes, taken-within ws (c .word) h m (c .place) (c .position) (legal-place ws c (f .stands) h) k)) in
+          taken-add ws (left - m) m c ∙ (rw (
+            goes,
+            taken-within ws (c .word) h m (c .place) (c .position)
+                (legal-place ws c (f .stands) h) k,
+          )) in
           let u : takenBy ws left c ≡ m + takenBy ws (left - m) next = rw all at t in
           record {
             stands = legal-moved ws (c .word) h m (c .place) (c .position);
@@ -58,15 +65,22 @@ module _ {ws : List ℕ} {c₀ : Cursor} {budget : ℕ} where
 
       -- what the turn lists, and then the rest
       pub going-listed : (g : Range) → insideCount g ≤ circle
-          → listedBy g ws left c ≡ along (stepOf (g .thinning)) (numberOf g (c .position)) (placesIn (wordAt ws c) (c .place) (min m (insideCount g - c .position))) ++ listedBy g ws (left - m) next
+          → listedBy g ws left c ≡ along (stepOf (g .thinning)) (numberOf g (c .position))
+          (placesIn (wordAt ws c) (c .place) (min m (insideCount g - c .position))) ++ listedBy g ws (left - m) next
       going-listed g s =
           ap (λ (n : ℕ). listedBy g ws n c) (sym all)
           ∙ listed-add ws (left - m) g m c
-          ∙ (rw (goes, listed-within ws (c .word) h g s m (c .place) (c .position) (legal-place ws c (f .stands) h) k, numbers-places g (c .position) (wordAt ws c) (c .place) m))
+          ∙ (rw (
+            goes,
+            listed-within ws (c .word) h g s m (c .place) (c .position) (legal-place ws c (f .stands) h) k,
+            numbers-places g (c .position) (wordAt ws c) (c .place) m,
+          ))
 
-    module _ (g : Range) {out₀ out : List ℕ} {n : ℕ} (fill : Filling (listedBy g ws budget c₀) out₀ out (listedBy g ws left c) n) where
+    module _ (g : Range) {out₀ out : List ℕ} {n : ℕ} (fill : Filling (listedBy g ws budget c₀) out₀ out
+        (listedBy g ws left c) n) where
       -- the words have ended
-      pub gone-end : length ws ≤ c .word → Gone g ws c₀ budget out₀ (record { next = c; taken = budget - left; listed = n }) out
+      pub gone-end : length ws ≤ c .word → Gone g ws c₀ budget out₀
+          (record { next = c; taken = budget - left; listed = n }) out
       gone-end h =
           let d = done (listed-end ws c h g left) fill in
           let t : budget - left ≡ takenBy ws budget c₀ = omega (arith, f .adds, taken-end ws c h left) in

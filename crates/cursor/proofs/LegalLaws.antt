@@ -25,7 +25,8 @@ steps-none w e = rw (eq-eqb _ _ e)
 
 pub steps-pos : (w : ℕ) → 0 < stepsIn w
 steps-pos w = either (eqb (coversOf w) 0) (λ t. omega (arith, steps-none w (eqb-true _ _ t)))
-    (λ f. let n : coversOf w ≡ 0 → ⊥ = eqb-false _ _ f in let h : 0 < coversOf w = omega arith in omega (arith, steps-some w h))
+    (λ f. let n : coversOf w ≡ 0 → ⊥ = eqb-false _ _ f in let h : 0 < coversOf w = omega arith in
+    omega (arith, steps-some w h))
 
 pub steps-le : (w : ℕ) → stepsIn w ≤ 16383
 steps-le w = both (λ (n : ℕ). n ≤ 16383) (eqb (coversOf w) 0) (λ _. omega arith) (λ _. covers-lt w)
@@ -39,14 +40,16 @@ module _ (ws : List ℕ) (c : Cursor) where
 
   pub legal-place : legal ws c ≡ true → c .word < length ws → c .place < stepsIn (wordAt ws c)
   unfolding legal
-  legal-place e h = by-test (ltb circle (c .position)) (λ _ z. true≢false z) (λ _ z. ltb-true _ _ (simp (lt-ltb _ _ h) at z)) e
+  legal-place e h = by-test (ltb circle (c .position)) (λ _ z. true≢false z)
+      (λ _ z. ltb-true _ _ (simp (lt-ltb _ _ h) at z)) e
 
   pub legal-word : legal ws c ≡ true → c .word ≤ length ws
   unfolding legal
   legal-word =
       by-test (ltb circle (c .position)) (λ _ e. true≢false e)
       (λ _. by-test (ltb (c .word) (length ws)) (λ t _. let h : c .word < length ws = ltb-true _ _ t in omega arith)
-      (λ _. by-test (eqb (c .word) (length ws)) (λ t _. let h : c .word ≡ length ws = eqb-true _ _ t in omega arith) (λ _ e. true≢false e)))
+      (λ _. by-test (eqb (c .word) (length ws)) (λ t _. let h : c .word ≡ length ws = eqb-true _ _ t in omega arith)
+      (λ _ e. true≢false e)))
 
   -- a place of a word is legal
   pub legal-in : c .position ≤ circle → c .word < length ws → c .place < stepsIn (wordAt ws c) → legal ws c ≡ true
@@ -71,7 +74,8 @@ module _ (ws : List ℕ) (c : Cursor) where
 
   pub legal-at-end : c .position ≤ circle → c .word ≡ length ws → legal ws c ≡ eqb (c .place) 0
   unfolding legal
-  legal-at-end p e = let n : length ws ≤ c .word = omega arith in rw (le-ltb circle (c .position) p, le-ltb _ _ n, eq-eqb _ _ e)
+  legal-at-end p e = let n : length ws ≤ c .word = omega arith in
+      rw (le-ltb circle (c .position) p, le-ltb _ _ n, eq-eqb _ _ e)
 
   pub illegal-word : c .position ≤ circle → length ws < c .word → legal ws c ≡ false
   unfolding legal
@@ -119,13 +123,15 @@ module _ (w i q p : ℕ) where
     unfolding listedAt
     listed-none z = rw (eq-eqb _ _ z)
 
-    pub listed-place : 0 < coversOf w → listedAt g w (cursor i q p) ≡ cond (isListed g p (valueOf w q)) (numberOf g p ∷ []) []
+    pub listed-place : 0 < coversOf w → listedAt g w (cursor i q p) ≡ cond (isListed g p (valueOf w q))
+        (numberOf g p ∷ []) []
     unfolding listedAt
     listed-place h = let n : coversOf w ≡ 0 → ⊥ = λ (z : coversOf w ≡ 0). omega arith in rw (ne-eqb _ _ n)
 
 -- the three kinds of step, told apart
 pub by-step : (w i q p : ℕ) (P : Cursor → Type 0) → q < stepsIn w → (coversOf w ≡ 0 → P (cursor (i + 1) 0 p))
-    → (q + 1 < coversOf w → P (cursor i (q + 1) (nextPosition p))) → (q + 1 ≡ coversOf w → P (cursor (i + 1) 0 (nextPosition p)))
+    → (q + 1 < coversOf w → P (cursor i (q + 1) (nextPosition p)))
+    → (q + 1 ≡ coversOf w → P (cursor (i + 1) 0 (nextPosition p)))
     → P (stepOf w (cursor i q p))
 by-step w i q p P h none inner last =
     either (eqb (coversOf w) 0)
@@ -144,4 +150,5 @@ pub length-listed : (g : Range) (w : ℕ) (c : Cursor) → length (listedAt g w 
 unfolding listedAt
 length-listed g w c =
     both (λ (l : List ℕ). length l ≤ 1) (eqb (coversOf w) 0) (λ _. omega arith)
-    (λ _. both (λ (l : List ℕ). length l ≤ 1) (isListed g (c .position) (valueOf w (c .place))) (λ _. omega arith) (λ _. omega arith))
+    (λ _. both (λ (l : List ℕ). length l ≤ 1) (isListed g (c .position) (valueOf w (c .place))) (λ _. omega arith)
+    (λ _. omega arith))

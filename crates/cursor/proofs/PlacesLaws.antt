@@ -23,13 +23,17 @@ take-min : (a b : ℕ) (l : List ℕ) → take a (take b l) ≡ take (min b a) l
 take-min a b l =
     either (ltb a b)
     (λ t. let h : a < b = ltb-true _ _ t in let e : min b a ≡ a = omega arith in rw e (take-take a b l (omega arith)))
-    (λ f. let h : b ≤ a = ltb-false _ _ f in let e : min b a ≡ b = omega arith in rw e (take-all a (take b l) (omega (arith, length-take b l))))
+    (λ f. let h : b ≤ a = ltb-false _ _ f in let e : min b a ≡ b = omega arith in
+    rw e (take-all a (take b l) (omega (arith, length-take b l))))
 
 -- the numbers of m places: one step apart, as far as the range goes
 pub numbers-places : (g : Range) (p w q m : ℕ)
-    → numbersIn g p (placesIn w q m) ≡ along (stepOf (g .thinning)) (numberOf g p) (placesIn w q (min m (insideCount g - p)))
-numbers-places g p w q m = numbers-along g p (placesIn w q m) ∙ (rw (take-min (insideCount g - p) m (drop q (valuesIn w))))
+    → numbersIn g p (placesIn w q m) ≡ along (stepOf (g .thinning)) (numberOf g p)
+    (placesIn w q (min m (insideCount g - p)))
+numbers-places g p w q m = numbers-along g p (placesIn w q m)
+    ∙ (rw (take-min (insideCount g - p) m (drop q (valuesIn w))))
 
 -- the same numbers, whose parts are known by equations
-pub along-same : {s s′ f f′ w w′ m m′ : ℕ} (q : ℕ) → s ≡ s′ → f ≡ f′ → w ≡ w′ → m ≡ m′ → along s f (placesIn w q m) ≡ along s′ f′ (placesIn w′ q m′)
+pub along-same : {s s′ f f′ w w′ m m′ : ℕ} (q : ℕ) → s ≡ s′ → f ≡ f′ → w ≡ w′ → m ≡ m′
+    → along s f (placesIn w q m) ≡ along s′ f′ (placesIn w′ q m′)
 along-same q a b c d = rw (a, b, c, d)

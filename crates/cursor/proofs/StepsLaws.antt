@@ -1,4 +1,5 @@
--- Several steps: none, one more, none at the end, and a and then b: the one place that unfolds `takenBy`, `afterSteps` and `listedBy`. Assumes nothing.
+-- Several steps: none, one more, none at the end, and a and then b: the one place that unfolds `takenBy`,
+-- `afterSteps` and `listedBy`. Assumes nothing.
 --     taken-none, after-none, listed-zero    no steps
 --     taken-suc, after-suc, listed-suc       one step and then k
 --     taken-end, after-end, listed-end       there is no step at the end
@@ -60,7 +61,8 @@ module _ (ws : List ℕ) (c : Cursor) where
     unfolding afterSteps
     after-suc = rw (lt-ltb _ _ h)
 
-    pub listed-suc : (g : Range) → listedBy g ws (suc k) c ≡ listedAt g (wordAt ws c) c ++ listedBy g ws k (stepOf (wordAt ws c) c)
+    pub listed-suc : (g : Range) → listedBy g ws (suc k) c ≡ listedAt g (wordAt ws c) c
+        ++ listedBy g ws k (stepOf (wordAt ws c) c)
     unfolding listedBy
     listed-suc g = rw (lt-ltb _ _ h)
 
@@ -71,26 +73,48 @@ module _ (ws : List ℕ) (b : ℕ) where
   after-add zero c = rw (zero-add, after-none ws c)
   after-add (suc a) c =
       either (ltb (c .word) (length ws))
-      (λ t. let h : c .word < length ws = ltb-true _ _ t in rw (suc-add, after-suc ws c (a + b) h, after-suc ws c a h) (after-add a (stepOf (wordAt ws c) c)))
-      (λ f. let h : length ws ≤ c .word = ltb-false _ _ f in rw (after-end ws c h (suc a + b), after-end ws c h (suc a), after-end ws c h b))
+      (λ t. let h : c .word < length ws = ltb-true _ _ t in
+      rw (suc-add, after-suc ws c (a + b) h, after-suc ws c a h) (after-add a (stepOf (wordAt ws c) c)))
+      (λ f. let h : length ws ≤ c .word = ltb-false _ _ f in
+      rw (after-end ws c h (suc a + b), after-end ws c h (suc a), after-end ws c h b))
 
   pub taken-add : (a : ℕ) (c : Cursor) → takenBy ws (a + b) c ≡ takenBy ws a c + takenBy ws b (afterSteps ws a c)
   taken-add zero c = rw (zero-add, after-none ws c, taken-none ws c, zero-add)
   taken-add (suc a) c =
       either (ltb (c .word) (length ws))
       (λ t. let h : c .word < length ws = ltb-true _ _ t in
-      rw (suc-add, taken-suc ws c (a + b) h, taken-suc ws c a h, after-suc ws c a h, taken-add a (stepOf (wordAt ws c) c), suc-add))
+      rw (
+        suc-add,
+        taken-suc ws c (a + b) h,
+        taken-suc ws c a h,
+        after-suc ws c a h,
+        taken-add a (stepOf (wordAt ws c) c),
+        suc-add,
+      ))
       (λ f. let h : length ws ≤ c .word = ltb-false _ _ f in
       rw (taken-end ws c h (suc a + b), taken-end ws c h (suc a), after-end ws c h (suc a), taken-end ws c h b))
 
-  pub listed-add : (g : Range) (a : ℕ) (c : Cursor) → listedBy g ws (a + b) c ≡ listedBy g ws a c ++ listedBy g ws b (afterSteps ws a c)
+  pub listed-add : (g : Range) (a : ℕ) (c : Cursor) → listedBy g ws (a + b) c ≡ listedBy g ws a c
+      ++ listedBy g ws b (afterSteps ws a c)
   listed-add g zero c = rw (zero-add, after-none ws c, listed-zero ws c g)
   listed-add g (suc a) c =
       either (ltb (c .word) (length ws))
       (λ t. let h : c .word < length ws = ltb-true _ _ t in
-      rw (suc-add, listed-suc ws c (a + b) h g, listed-suc ws c a h g, after-suc ws c a h, listed-add g a (stepOf (wordAt ws c) c), append-assoc))
+      rw (
+        suc-add,
+        listed-suc ws c (a + b) h g,
+        listed-suc ws c a h g,
+        after-suc ws c a h,
+        listed-add g a (stepOf (wordAt ws c) c),
+        append-assoc,
+      ))
       (λ f. let h : length ws ≤ c .word = ltb-false _ _ f in
-      rw (listed-end ws c h g (suc a + b), listed-end ws c h g (suc a), after-end ws c h (suc a), listed-end ws c h g b))
+      rw (
+        listed-end ws c h g (suc a + b),
+        listed-end ws c h g (suc a),
+        after-end ws c h (suc a),
+        listed-end ws c h g b,
+      ))
 
 -- no more are listed than steps are asked
 pub listed-le : (g : Range) (ws : List ℕ) (k : ℕ) (c : Cursor) → length (listedBy g ws k c) ≤ k
@@ -98,5 +122,9 @@ listed-le g ws zero c = rw (listed-zero ws c g) (omega arith)
 listed-le g ws (suc k) c =
     either (ltb (c .word) (length ws))
     (λ t. let h : c .word < length ws = ltb-true _ _ t in
-    rw (listed-suc ws c k h g, length-append) (omega (arith, length-listed g (wordAt ws c) c, listed-le g ws k (stepOf (wordAt ws c) c))))
+    rw (listed-suc ws c k h g, length-append) (omega (
+      arith,
+      length-listed g (wordAt ws c) c,
+      listed-le g ws k (stepOf (wordAt ws c) c),
+    )))
     (λ f. rw (listed-end ws c (ltb-false _ _ f) g (suc k)) (omega arith))

@@ -1,5 +1,6 @@
 -- Steps inside one word, at once: the one place that unfolds `movedIn`. Assumes nothing.
---     numbers-capped                              the position's stop at 65,536 changes nothing: the range has ended there
+--     numbers-capped                              the position's stop at 65,536 changes nothing: the range has ended
+--                                                 there
 --     taken-within, after-within, listed-within   m steps that do not go past the word at hand
 --     legal-moved                                 they lead to a legal cursor
 use Prim.Native.Nat.{ℕ, zero, suc, _+_, min, _≤_, _<_}
@@ -24,11 +25,13 @@ use Rattle.rle.proofs.NumbersLaws.{numbersIn-outside, numbersIn-cons}
 use Rattle.def_cursor.specs.declared.Cursor.{Cursor}
 use Rattle.def_cursor.specs.Cursor.{cursor, stepsIn, legal, nextPosition, stepOf, takenBy, afterSteps, listedBy}
 use Rattle.cursor.specs.Steps.{placesIn, positionIn, movedIn}
-use Rattle.cursor.proofs.LegalLaws.{steps-some, steps-none, legal-in, legal-next, step-none, step-inner, step-last, listed-none, listed-place}
+use Rattle.cursor.proofs.LegalLaws.{steps-some, steps-none, legal-in, legal-next, step-none, step-inner}
+use Rattle.cursor.proofs.LegalLaws.{step-last, listed-none, listed-place}
 use Rattle.cursor.proofs.StepsLaws.{taken-none, after-none, listed-zero, taken-suc, after-suc, listed-suc}
 
 -- the position's stop at 65,536 changes nothing: the range has ended there
-pub numbers-capped : (g : Range) → insideCount g ≤ circle → (p : ℕ) (vs : List ℕ) → numbersIn g (min p circle) vs ≡ numbersIn g p vs
+pub numbers-capped : (g : Range) → insideCount g ≤ circle → (p : ℕ) (vs : List ℕ)
+    → numbersIn g (min p circle) vs ≡ numbersIn g p vs
 numbers-capped g s p vs =
     either (ltb p circle)
     (λ t. let h : p < circle = ltb-true _ _ t in let e : min p circle ≡ p = omega arith in rw e)
@@ -78,7 +81,8 @@ module _ (w i q p : ℕ) where
       rw (position-one k) (step-last w i q p (omega (arith, steps-some w k)))))
 
   -- a step to the next place, and then m
-  moved-suc : (m : ℕ) → q + suc m ≤ stepsIn w → stepsIn w ≡ coversOf w → movedIn w m (cursor i (q + 1) (nextPosition p)) ≡ movedIn w (suc m) (cursor i q p)
+  moved-suc : (m : ℕ) → q + suc m ≤ stepsIn w → stepsIn w ≡ coversOf w
+      → movedIn w m (cursor i (q + 1) (nextPosition p)) ≡ movedIn w (suc m) (cursor i q p)
   unfolding movedIn
   moved-suc m l e =
       let s : q + 1 + m ≡ q + suc m = omega arith in
@@ -94,9 +98,11 @@ module _ (ws : List ℕ) (i : ℕ) (h : i < length ws) where
   covers-more : (q : ℕ) → q + 1 < stepsIn here → stepsIn here ≡ coversOf here
   covers-more q k =
       either (eqb (coversOf here) 0) (λ t. absurd (omega (arith, steps-none here (eqb-true _ _ t))))
-      (λ f. let n : coversOf here ≡ 0 → ⊥ = eqb-false _ _ f in let l : 0 < coversOf here = omega arith in steps-some here l)
+      (λ f. let n : coversOf here ≡ 0 → ⊥ = eqb-false _ _ f in let l : 0 < coversOf here = omega arith in
+      steps-some here l)
 
-  pub after-within : (m q p : ℕ) → p ≤ circle → q < stepsIn here → q + m ≤ stepsIn here → afterSteps ws m (cursor i q p) ≡ movedIn here m (cursor i q p)
+  pub after-within : (m q p : ℕ) → p ≤ circle → q < stepsIn here → q + m ≤ stepsIn here
+      → afterSteps ws m (cursor i q p) ≡ movedIn here m (cursor i q p)
   after-within zero q p b k l =
       let z : q + 0 ≡ q = omega arith in
       rw (after-none ws (cursor i q p), moved-inner here i q p 0 (omega arith), position-zero here i q p b, z)
@@ -105,7 +111,8 @@ module _ (ws : List ℕ) (i : ℕ) (h : i < length ws) where
       (either (ltb (q + 1) (stepsIn here))
       (λ t. let j : q + 1 < stepsIn here = ltb-true _ _ t in
       let e : stepsIn here ≡ coversOf here = covers-more q j in
-      rw (step-inner here i q p (omega arith), after-within m (q + 1) (nextPosition p) (omega arith) j (omega arith)) (moved-suc here i q p m l e))
+      rw (step-inner here i q p (omega arith), after-within m (q + 1) (nextPosition p) (omega arith) j (omega arith))
+      (moved-suc here i q p m l e))
       (λ f. let j : stepsIn here ≤ q + 1 = ltb-false _ _ f in
       let e : m ≡ 0 = omega arith in
       rw (e, after-none ws (stepOf here (cursor i q p))) (step-out here i q p b (omega arith))))
@@ -134,19 +141,32 @@ module _ (ws : List ℕ) (i : ℕ) (h : i < length ws) where
 
   module _ (g : Range) (s : insideCount g ≤ circle) where
     numbers-suc : (q p m : ℕ) → q < coversOf here
-        → cond (isListed g p (valueOf here q)) (numberOf g p ∷ []) [] ++ numbersIn g (nextPosition p) (placesIn here (q + 1) m) ≡ numbersIn g p (placesIn here q (suc m))
+        → cond (isListed g p (valueOf here q)) (numberOf g p ∷ []) []
+        ++ numbersIn g (nextPosition p) (placesIn here (q + 1) m) ≡ numbersIn g p (placesIn here q (suc m))
     numbers-suc q p m k =
-        rw (places-suc q m k, numbersIn-cons g p (valueOf here q) (placesIn here (q + 1) m), numbers-capped g s (p + 1) (placesIn here (q + 1) m), add-one p)
+        rw (
+          places-suc q m k,
+          numbersIn-cons g p (valueOf here q) (placesIn here (q + 1) m),
+          numbers-capped g s (p + 1) (placesIn here (q + 1) m),
+          add-one p,
+        )
         (join (isListed g p (valueOf here q)) (numberOf g p) (numbersIn g (suc p) (placesIn here (q + 1) m)))
 
-    pub listed-within : (m q p : ℕ) → q < stepsIn here → q + m ≤ stepsIn here → listedBy g ws m (cursor i q p) ≡ numbersIn g p (placesIn here q m)
+    pub listed-within : (m q p : ℕ) → q < stepsIn here → q + m ≤ stepsIn here
+        → listedBy g ws m (cursor i q p) ≡ numbersIn g p (placesIn here q m)
     listed-within zero q p k l = rw (listed-zero ws (cursor i q p) g, numbers-none g p)
     listed-within (suc m) q p k l =
         rw (listed-suc ws (cursor i q p) m h g)
         (either (eqb (coversOf here) 0)
         (λ t. let z : coversOf here ≡ 0 = eqb-true _ _ t in
         let e : m ≡ 0 = omega (arith, steps-none here z) in
-        rw (listed-none here i q p g z, e, listed-zero ws (stepOf here (cursor i q p)) g, places-none q 1 z, numbers-none g p))
+        rw (
+          listed-none here i q p g z,
+          e,
+          listed-zero ws (stepOf here (cursor i q p)) g,
+          places-none q 1 z,
+          numbers-none g p,
+        ))
         (λ f. let n : coversOf here ≡ 0 → ⊥ = eqb-false _ _ f in
         let u : 0 < coversOf here = omega arith in
         let c : stepsIn here ≡ coversOf here = steps-some here u in

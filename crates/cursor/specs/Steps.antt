@@ -29,10 +29,12 @@ movedIn w m c =
     cond (ltb (c .place + m) (stepsIn w)) (cursor (c .word) (c .place + m) (positionIn w m (c .position)))
     (cursor (c .word + 1) 0 (positionIn w m (c .position)))
 
-pub record Gone (g : Range) (ws : List ℕ) (c : Cursor) (budget : ℕ) (out : List ℕ) (r : Stretch) (out′ : List ℕ) : Type 0 where
+pub record Gone (g : Range) (ws : List ℕ) (c : Cursor) (budget : ℕ) (out : List ℕ) (r : Stretch) (out′ : List ℕ)
+    : Type 0 where
   pub answer : r ≡ stretchOf g ws c budget
   pub filled : out′ ≡ listedBy g ws budget c ++ drop (length (listedBy g ws budget c)) out
 
-pub record Advancing (g : Range) (ws : List ℕ) (c : Cursor) (budget : ℕ) (out : List ℕ) (r : Advanced) (out′ : List ℕ) : Type 0 where
+pub record Advancing (g : Range) (ws : List ℕ) (c : Cursor) (budget : ℕ) (out : List ℕ) (r : Advanced) (out′ : List ℕ)
+    : Type 0 where
   pub answer : r ≡ advanceTo (cursorFault ws c budget (length out)) (stretchOf g ws c budget)
   pub filled : out′ ≡ leftTo (cursorFault ws c budget (length out)) (listedBy g ws budget c) out

@@ -40,7 +40,8 @@ triesFrom t start (w ∷ ws) = map (tryAt t start) (onesIn w) ++ triesFrom t (mo
 
 -- the numbers of words, from a start on
 unfoldable pub crateNumbersFrom : ℕ → ℕ → ℕ → List ℕ → List ℕ
-crateNumbersFrom end t start ws = whileFrom (λ _ x. passes (x .start) end (x .number)) (λ _ x. x .number) 0 (triesFrom t start ws)
+crateNumbersFrom end t start ws = whileFrom (λ _ x. passes (x .start) end (x .number)) (λ _ x. x .number) 0
+    (triesFrom t start ws)
 
 -- time p is tried as number p from begin
 unfoldable pub cratePairsFrom : Fields → ℕ → List ℕ → List Receipt

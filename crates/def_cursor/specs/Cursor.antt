@@ -1,4 +1,5 @@
--- The standard number cursor: one step, the steps left, a stretch of k steps and what it lists (document 01, "Views, cursors and the dump").
+-- The standard number cursor: one step, the steps left, a stretch of k steps and what it lists (document 01, "Views,
+-- cursors and the dump").
 --     legal          a cursor that names a place of the words, or their end
 --     stepOf         the cursor after one step
 --     takenBy, afterSteps, listedBy     the steps taken, the cursor and the numbers of a stretch of at most k steps
@@ -43,7 +44,8 @@ stepsIn w = cond (eqb (coversOf w) 0) 1 (coversOf w)
 abbrev pub wordAt : List ℕ → Cursor → ℕ
 wordAt ws c = getD ws (c .word) 0
 
--- a place of a word (a word covering none has place 0 only), or the end: the word count and place 0; with a position of at most 65,536
+-- a place of a word (a word covering none has place 0 only), or the end: the word count and place 0; with a position
+-- of at most 65,536
 unfoldable pub legal : List ℕ → Cursor → Bool
 legal ws c =
     cond (ltb circle (c .position)) false
@@ -54,7 +56,8 @@ legal ws c =
 abbrev pub nextPosition : ℕ → ℕ
 nextPosition p = min (p + 1) circle
 
--- one step in the word w: past the word where it covers none; else one place on, and after the last place the next word's place 0
+-- one step in the word w: past the word where it covers none; else one place on, and after the last place the next
+-- word's place 0
 unfoldable pub stepOf : ℕ → Cursor → Cursor
 stepOf w c =
     cond (eqb (coversOf w) 0) (cursor (c .word + 1) 0 (c .position))
@@ -78,7 +81,8 @@ afterSteps ws (suc k) c = cond (ltb (c .word) (length ws)) (afterSteps ws k (ste
 
 unfoldable pub listedBy : Range → List ℕ → ℕ → Cursor → List ℕ
 listedBy g ws zero c = []
-listedBy g ws (suc k) c = cond (ltb (c .word) (length ws)) (listedAt g (wordAt ws c) c ++ listedBy g ws k (stepOf (wordAt ws c) c)) []
+listedBy g ws (suc k) c = cond (ltb (c .word) (length ws))
+    (listedAt g (wordAt ws c) c ++ listedBy g ws k (stepOf (wordAt ws c) c)) []
 
 -- the steps left from a place of the first word on
 unfoldable pub stepsLeft : List ℕ → ℕ → ℕ
@@ -91,7 +95,12 @@ cursorFault ws c budget room =
     cond (legal ws c) (cond (leb budget room) Fine (Unfit (NoRoom budget room))) (Unfit NoPlace)
 
 abbrev pub stretchOf : Range → List ℕ → Cursor → ℕ → Stretch
-stretchOf g ws c budget = record { next = afterSteps ws budget c; taken = takenBy ws budget c; listed = length (listedBy g ws budget c) }
+stretchOf g ws c budget = record {
+  next = afterSteps ws budget c;
+  taken = takenBy ws budget c;
+  listed = length
+      (listedBy g ws budget c);
+}
 
 -- a call's answer, and what the lent list then holds, of words in a range
 abbrev pub advanceTo : Checked → Stretch → Advanced
@@ -104,7 +113,8 @@ leftTo (Unfit x) l out = out
 
 -- the order of a cursor's refusals, of a block's view: 10, 7, then 16 and 11
 unfoldable pub advanceFault : Rle → List ℕ → Cursor → ℕ → ℕ → Checked
-advanceFault a v c budget room = thenCheck (checkOf Standard (Spans (Chunks a)) v) (cursorFault (standardWords v) c budget room)
+advanceFault a v c budget room = thenCheck (checkOf Standard (Spans (Chunks a)) v)
+    (cursorFault (standardWords v) c budget room)
 
 -- a call's answer of a block's view v, asked as type 1 or 2
 unfoldable pub advanceOf : Rle → List ℕ → Cursor → ℕ → ℕ → Advanced
@@ -117,7 +127,8 @@ stretchFilled a v c budget out =
     leftTo (advanceFault a v c budget (length out)) (listedBy (rangeOf (fieldsAt v)) (standardWords v) budget c) out
 
 -- the contract of a cursor's call on a block's view
-pub record Stretched (a : Rle) (v : List ℕ) (c : Cursor) (budget : ℕ) (out : List ℕ) (r : Advanced) (out′ : List ℕ) : Type 0 where
+pub record Stretched (a : Rle) (v : List ℕ) (c : Cursor) (budget : ℕ) (out : List ℕ) (r : Advanced) (out′ : List ℕ)
+    : Type 0 where
   pub answer : r ≡ advanceOf a v c budget (length out)
   pub filled : out′ ≡ stretchFilled a v c budget out
 
@@ -130,7 +141,8 @@ abbrev pub onViewFilled : Or (List ℕ) → (List ℕ → List ℕ) → List ℕ
 onViewFilled (shown v) f out = f v
 onViewFilled (refused x) f out = out
 
-pub record StretchedIn (s : List ℕ) (k : ℕ) (a : Rle) (c : Cursor) (budget : ℕ) (out : List ℕ) (r : Advanced) (out′ : List ℕ)
+pub record StretchedIn (s : List ℕ) (k : ℕ) (a : Rle) (c : Cursor) (budget : ℕ) (out : List ℕ) (r : Advanced)
+    (out′ : List ℕ)
     : Type 0 where
   pub answer : r ≡ onViewAdvanced (viewOf Standard s k) (λ v. advanceOf a v c budget (length out))
   pub filled : out′ ≡ onViewFilled (viewOf Standard s k) (λ v. stretchFilled a v c budget out) out
@@ -142,6 +154,7 @@ advanceBy t v c budget room = onRle (rleOf t) (λ a. advanceOf a v c budget room
 abbrev pub filledBy : ℕ → List ℕ → Cursor → ℕ → List ℕ → List ℕ
 filledBy t v c budget out = onRle (rleOf t) (λ a. stretchFilled a v c budget out) out
 
-pub record StretchedBy (s : List ℕ) (k t : ℕ) (c : Cursor) (budget : ℕ) (out : List ℕ) (r : Advanced) (out′ : List ℕ) : Type 0 where
+pub record StretchedBy (s : List ℕ) (k t : ℕ) (c : Cursor) (budget : ℕ) (out : List ℕ) (r : Advanced) (out′ : List ℕ)
+    : Type 0 where
   pub answer : r ≡ onViewAdvanced (viewOf Standard s k) (λ v. advanceBy t v c budget (length out))
   pub filled : out′ ≡ onViewFilled (viewOf Standard s k) (λ v. filledBy t v c budget out) out

@@ -1,4 +1,5 @@
--- Job lists: records of a body length (4 bytes), a kind (2) and the body, all little-endian (document 01, "Job lists and writing").
+-- Job lists: records of a body length (4 bytes), a kind (2) and the body, all little-endian (document 01, "Job lists
+-- and writing").
 --     jobsOf        the records of a list
 --     jobsFault     12, with the index of the first bad record
 --     askedOf       what a record asks to be shown
@@ -60,7 +61,8 @@ isWhole s = leb 6 (length s) && leb (le32 s 0) (length s - 6)
 abbrev pub jobAt : List ℕ → Job
 jobAt s = record { kind = le16 s 4; body = take (le32 s 0) (drop 6 s) }
 
--- the records from here on; nothing at all, or less than a whole record, counts as a cut one. Records are not empty, so fuel of the list's length and one is enough
+-- the records from here on; nothing at all, or less than a whole record, counts as a cut one. Records are not empty,
+-- so fuel of the list's length and one is enough
 unfoldable pub jobsFrom : ℕ → List ℕ → List Job
 jobsFrom zero s = []
 jobsFrom (suc fuel) s =
@@ -79,15 +81,23 @@ abbrev pub askedPadding : Job → ℕ
 askedPadding j = le16 (j .body) 4
 
 unfoldable pub isHeaderJob : Job → Bool
-isHeaderJob j = eqb (j .kind) headerKind && (eqb (length (j .body)) 6 && (eqb (askedPadding j % 4) 0 && leb (askedPadding j) 252))
+isHeaderJob j = eqb (j .kind) headerKind && (eqb (length (j .body)) 6 &&
+    (eqb (askedPadding j % 4) 0 && leb (askedPadding j) 252))
 
 -- kinds 1 to 3: SSRC (4), begin (2), end (2), thinning (2), then words or times
 abbrev pub jobFields : Job → Fields
-jobFields j = record { ssrc = le32 (j .body) 0; begin = le16 (j .body) 4; end = le16 (j .body) 6; thinning = le16 (j .body) 8 }
+jobFields j = record {
+  ssrc = le32 (j .body) 0;
+  begin = le16 (j .body) 4;
+  end = le16 (j .body) 6;
+  thinning = le16
+      (j .body) 8;
+}
 
 -- fields, a thinning of at most 15, and whole items of so many bytes
 abbrev pub hasFields : Job → ℕ → Bool
-hasFields j bytes = leb 10 (length (j .body)) && (leb (jobFields j .thinning) 15 && eqb ((length (j .body) - 10) % bytes) 0)
+hasFields j bytes = leb 10 (length (j .body)) && (leb (jobFields j .thinning) 15 && eqb
+    ((length (j .body) - 10) % bytes) 0)
 
 -- a record's kind is the type number of the block that it asks for
 abbrev pub isBody : KindOr → Job → Bool

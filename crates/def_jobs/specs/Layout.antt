@@ -20,7 +20,8 @@ abbrev pub bytesOf : (ℕ → List ℕ) → List ℕ → List ℕ
 bytesOf put [] = []
 bytesOf put (x ∷ xs) = put x ++ bytesOf put xs
 
--- the zero words behind the words: an odd count gains one; in the careful layout an even count whose last word is not 0 gains two
+-- the zero words behind the words: an odd count gains one; in the careful layout an even count whose last word is not
+-- 0 gains two
 abbrev pub isOdd : List ℕ → Bool
 isOdd ws = eqb (length ws % 2) 1
 
@@ -37,7 +38,8 @@ head type specific behind = type ∷ specific ∷ two (behind / 4)
 
 -- the fields behind them, and T in the specific byte
 abbrev pub withFields : ℕ → Fields → List ℕ → List ℕ
-withFields type f rest = head type (f .thinning) (8 + length rest) ++ (four (f .ssrc) ++ (two (f .begin) ++ (two (f .end) ++ rest)))
+withFields type f rest = head type (f .thinning) (8 + length rest)
+    ++ (four (f .ssrc) ++ (two (f .begin) ++ (two (f .end) ++ rest)))
 
 -- a block's words, and the zero words behind them
 abbrev pub wordsBytes : Layout → List ℕ → List ℕ

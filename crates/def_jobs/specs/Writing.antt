@@ -1,4 +1,5 @@
--- What a writer answers and leaves in the lent buffer: 12, 14, 15, 11 (document 01, "Refusal numbers" and "Job lists and writing").
+-- What a writer answers and leaves in the lent buffer: 12, 14, 15, 11 (document 01, "Refusal numbers" and "Job lists
+-- and writing").
 --     misleads      whether the crate reading shows a block otherwise than the standard
 --     packetOf      the packet of a job list, or 12, 14 and 15 in that order
 -- A writer's contract is refusals' `Listed (packetOf layout list)`: 11 comes last, and bytes behind the packet stay.
@@ -61,7 +62,8 @@ misleadFault Careful s n = misleadingFrom s 0 n
 unfoldable pub writeFault : Layout → List Job → Checked
 writeFault layout js =
     thenCheck (jobsFault 0 js)
-    (thenCheck (sizeFault (length js - 1) (length (layoutOf layout js))) (misleadFault layout (layoutOf layout js) (length js - 1)))
+    (thenCheck (sizeFault (length js - 1) (length (layoutOf layout js)))
+    (misleadFault layout (layoutOf layout js) (length js - 1)))
 
 -- the packet, or why it is refused
 unfoldable pub packetOf : Layout → List ℕ → Or (List ℕ)

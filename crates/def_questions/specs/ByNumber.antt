@@ -1,4 +1,5 @@
--- The same questions with the asked type given by a number, as other languages ask. A number that a question does not serve is 10 with the
+-- The same questions with the asked type given by a number, as other languages ask. A number that a question does not
+-- serve is 10 with the
 -- block's own type, in 10's place: after 9, before 7 (RULES, "Refusal numbers").
 --     numbersBy, wordsBy     served by 1 and 2
 --     fieldsBy               served by 1, 2 and 3

@@ -1,7 +1,11 @@
 -- Document 01's number and two values for each refusal (01, "Refusal numbers").
 use Prim.Native.Nat.{ℕ}
 use Rattle.def_refusals.specs.declared.Refusal.{Refusal}
-use Rattle.def_refusals.specs.declared.Refusal.the-variants.{TooShort, WrongVersion, WrongPacketType, WrongLength, BadPadding, BlockTooLong, NoBlock, OtherType, BadBlockLength, NoFields, NoPlace, NoRoom, ValueTooLarge, BadRecord, TooMany, Misleads}
+use Rattle.def_refusals.specs.declared.Refusal.the-variants.{TooShort, WrongVersion, WrongPacketType}
+use Rattle.def_refusals.specs.declared.Refusal.the-variants.{WrongLength, BadPadding, BlockTooLong, NoBlock}
+use Rattle.def_refusals.specs.declared.Refusal.the-variants.{OtherType, BadBlockLength, NoFields, NoPlace}
+use Rattle.def_refusals.specs.declared.Refusal.the-variants.{NoRoom, ValueTooLarge, BadRecord, TooMany}
+use Rattle.def_refusals.specs.declared.Refusal.the-variants.{Misleads}
 use Rattle.def_refusals.specs.declared.Numbered.{Numbered}
 
 -- a number and two values

@@ -3,7 +3,8 @@
 --     valueOf       its value at a place
 --     chunkOf       its kind
 --     wordOf        the word of a kind, with the faults of a word, 13
---     wordBytes     its two bytes, or 13; making one chunk word is refusals' `Listed (wordBytes c)`, so 11 comes after 13
+--     wordBytes     its two bytes, or 13; making one chunk word is refusals' `Listed (wordBytes c)`, so 11 comes
+--                   after 13
 use Prim.Native.Nat.{ℕ, zero, suc, _+_, _-_, _/_, _%_, _^_}
 use mathlib.Core.Bool.{cond}
 use mathlib.Core.List.{List, [], _∷_, map}

@@ -1,4 +1,5 @@
--- A list that goes by positions: items stand at positions p, p + 1, .., and those that pass a test are listed, in order.
+-- A list that goes by positions: items stand at positions p, p + 1, .., and those that pass a test are listed, in
+-- order.
 use Prim.Native.Nat.{ℕ, suc}
 use mathlib.Core.Bool.{Bool, cond}
 use mathlib.Core.List.{List, [], _∷_}

@@ -12,7 +12,8 @@ use Rattle.def_standard.specs.declared.Range.{Range}
 abbrev pub circle : ℕ
 circle = 65536
 
--- R: how many numbers there are from begin to before end; the whole circle where they are equal (a house rule, as the crate's)
+-- R: how many numbers there are from begin to before end; the whole circle where they are equal (a house rule, as the
+-- crate's)
 abbrev pub sizeOf : ℕ → ℕ → ℕ
 sizeOf b e = cond (eqb b e) circle ((e + circle - b) % circle)
 

@@ -1,4 +1,5 @@
--- The standard reading's lists, each of the block's own L bytes v (RFC 3611, 4.1 to 4.5; document 01, "Standard reading").
+-- The standard reading's lists, each of the block's own L bytes v (RFC 3611, 4.1 to 4.5; document 01, "Standard
+-- reading").
 use Prim.Native.Nat.{ℕ}
 use mathlib.Core.Bool.{Bool, _&&_}
 use mathlib.Core.List.{List, [], _∷_, _++_}

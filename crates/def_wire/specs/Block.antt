@@ -1,5 +1,7 @@
--- One block, as a function of its view v (RFC 3611, 3 and 4; document 01, "Packet and blocks" and refusals 10, 7 and 8).
--- The standard's view has L bytes, so L is its length there; the crate's has everything left, and L comes from the length field.
+-- One block, as a function of its view v (RFC 3611, 3 and 4; document 01, "Packet and blocks" and refusals 10, 7 and
+-- 8).
+-- The standard's view has L bytes, so L is its length there; the crate's has everything left, and L comes from the
+-- length field.
 --     headerData    the four header bytes
 --     fieldsAt      SSRC, begin, end, thinning of types 1 to 3
 --     kindOf        the kind of a type number: types 1 to 5 have one
@@ -116,13 +118,15 @@ rule false expected actual = Unfit (BadBlockLength expected actual)
 abbrev pub nextFit : ℕ → ℕ
 nextFit l = l + (12 - (l - 4) % 12) % 12
 
--- standard: types 1 to 3 need L ≥ 12, type 4 needs L = 12, type 5 needs L − 4 divisible by 12 (RULES, "Standard reading")
+-- standard: types 1 to 3 need L ≥ 12, type 4 needs L = 12, type 5 needs L − 4 divisible by 12 (RULES, "Standard
+-- reading")
 unfoldable pub standardRule : Kind → ℕ → Checked
 standardRule (Spans g) l = rule (leb 12 l) 12 l
 standardRule Clock l = rule (eqb l 12) 12 l
 standardRule Echoes l = rule (eqb ((l - 4) % 12) 0) (nextFit l) l
 
--- crate: types 1 and 2 need L ≥ 12, type 3 needs nothing, type 4 needs left ≥ 12, type 5 needs left ≥ 16 and then L divisible
+-- crate: types 1 and 2 need L ≥ 12, type 3 needs nothing, type 4 needs left ≥ 12, type 5 needs left ≥ 16 and then L
+-- divisible
 -- by 16 (RULES, "Crate reading")
 unfoldable pub crateRule : Kind → ℕ → ℕ → Checked
 crateRule (Spans (Chunks a)) l left = rule (leb 12 l) 12 l
@@ -156,7 +160,8 @@ onCheckedTime (Unfit x) t = NoTime x
 -- the fields of a block asked as one with a range: 10, 7, then 8
 unfoldable pub fieldsOf : Reading → Ranged → List ℕ → FieldsOr
 fieldsOf r g v =
-    onCheckedFields (checkOf r (Spans g) v) (cond (isCut r g (length v)) (NoneOf (NoFields (length v))) (Shown (fieldsAt v)))
+    onCheckedFields (checkOf r (Spans g) v) (cond (isCut r g (length v)) (NoneOf (NoFields (length v)))
+    (Shown (fieldsAt v)))
 
 -- the time of a block asked as type 4: 10, then 7
 unfoldable pub timeOf : Reading → List ℕ → TimeOr

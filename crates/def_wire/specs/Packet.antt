@@ -10,7 +10,8 @@ use mathlib.Core.Bool.{Bool, false, cond, not, _||_}
 use mathlib.Core.List.{List, []}
 use lib.ListN.{length, take, drop}
 use lib.Dec.{ltb, leb, eqb}
-use Rattle.def_refusals.specs.declared.Refusal.the-variants.{TooShort, WrongVersion, WrongPacketType, WrongLength, BadPadding, BlockTooLong, NoBlock}
+use Rattle.def_refusals.specs.declared.Refusal.the-variants.{TooShort, WrongVersion, WrongPacketType, WrongLength}
+use Rattle.def_refusals.specs.declared.Refusal.the-variants.{BadPadding, BlockTooLong, NoBlock}
 use Rattle.def_refusals.specs.declared.Answer.{Answer}
 use Rattle.def_refusals.specs.declared.Answer.the-variants.{Done, Refused}
 use Rattle.def_refusals.specs.Answers.{Or, shown, refused}
@@ -71,7 +72,8 @@ unfoldable pub placeOf : List ℕ → ℕ → ℕ
 placeOf s zero = 8
 placeOf s (suc k) = placeOf s k + lengthAt s (placeOf s k)
 
--- how many blocks there are up to stop, of which n end at the place; or refusal 6. Blocks are not empty, so fuel of the packet's length is enough
+-- how many blocks there are up to stop, of which n end at the place; or refusal 6. Blocks are not empty, so fuel of
+-- the packet's length is enough
 unfoldable pub walkFrom : List ℕ → ℕ → ℕ → ℕ → ℕ → Answer
 walkFrom s stop zero at n = Done n
 walkFrom s stop (suc fuel) at n =
@@ -113,7 +115,8 @@ viewAt s (Missing x) = refused x
 abbrev pub viewOf : Reading → List ℕ → ℕ → Or (List ℕ)
 viewOf r s k = viewAt s (locate r s k)
 
--- that view as part of the caller's own packet: its bytes, none where it is refused, and where it begins in memory. A pointer is a block of
+-- that view as part of the caller's own packet: its bytes, none where it is refused, and where it begins in memory. A
+-- pointer is a block of
 -- memory and an offset in it
 abbrev pub bytesAt : List ℕ → Located → List ℕ
 bytesAt s (At at n) = part s at n
@@ -123,7 +126,8 @@ abbrev pub partAt : ℕ × ℕ → Located → ℕ × ℕ
 partAt ptr (At at n) = (ptr .0, ptr .1 + at)
 partAt ptr (Missing x) = ptr
 
--- a packet at a place in it, as the reader holds it. Any place serves: past the end the view is empty, and there is no next block
+-- a packet at a place in it, as the reader holds it. Any place serves: past the end the view is empty, and there is
+-- no next block
 abbrev pub nextPlace : List ℕ → ℕ → ℕ
 nextPlace s at = cond (ltb at (length s)) (at + lengthAt s at) at
 

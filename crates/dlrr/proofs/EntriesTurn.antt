@@ -51,7 +51,8 @@ module _ (v ss₀ ls₀ ds₀ : List ℕ) (n : ℕ) (count : n ≡ length (entri
       room-delays = within (ap (map delayIn) next) (s .delays)
 
       pub turned : (e : Echo) → e ≡ echoAt v at
-          → Storing v ss₀ ls₀ ds₀ (set ss i (e .ssrc)) (set ls i (e .last .0)) (set ds i (e .delay .0)) (i + 1) (at + 12)
+          → Storing v ss₀ ls₀ ds₀ (set ss i (e .ssrc)) (set ls i (e .last .0)) (set ds i (e .delay .0)) (i + 1)
+          (at + 12)
       turned e k =
           rw k
           (record {
@@ -62,8 +63,10 @@ module _ (v ss₀ ls₀ ds₀ : List ℕ) (n : ℕ) (count : n ≡ length (entri
           })
 
     -- nothing is left
-    none : n ≤ i → (f : Echo → ℕ) (l : List ℕ) (l₀ : List ℕ) → Filling (map f (entriesOf v)) l₀ l (map f (restAt v at)) i → map f (restAt v at) ≡ []
-    none h f l l₀ g = empty (map f (restAt v at)) (let k : length (map f (restAt v at)) ≡ 0 = omega (arith, g .count, length-map (entriesOf v) f) in k)
+    none : n ≤ i → (f : Echo → ℕ) (l : List ℕ) (l₀ : List ℕ)
+        → Filling (map f (entriesOf v)) l₀ l (map f (restAt v at)) i → map f (restAt v at) ≡ []
+    none h f l l₀ g = empty (map f (restAt v at)) (let k : length (map f (restAt v at)) ≡ 0 = omega
+        (arith, g .count, length-map (entriesOf v) f) in k)
       where
         empty : (m : List ℕ) → length m ≡ 0 → m ≡ []
         empty [] e = refl

@@ -1,4 +1,5 @@
--- EntriesLaws (the entries one by one, each way in which a listing call ends), EntriesTurn (one turn of the storing loop).
+-- EntriesLaws (the entries one by one, each way in which a listing call ends), EntriesTurn (one turn of the storing
+-- loop).
 pub mod EntriesLaws
 pub mod EntriesTurn
 pub mod Unique

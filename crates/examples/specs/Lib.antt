@@ -1,3 +1,4 @@
--- Document 01's twelve examples. Read in this order: Vectors (packets and job lists, a 32-bit word to a row), Examples (what is claimed of them).
+-- Document 01's twelve examples. Read in this order: Vectors (packets and job lists, a 32-bit word to a row),
+-- Examples (what is claimed of them).
 pub mod Vectors
 pub mod Examples

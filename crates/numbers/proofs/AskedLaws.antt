@@ -1,4 +1,5 @@
--- What a reading is asked: a block's numbers and words from the bytes of its words, and each way in which they are refused.
+-- What a reading is asked: a block's numbers and words from the bytes of its words, and each way in which they are
+-- refused.
 use Prim.Native.Nat.{ℕ, _-_, _≤_}
 use mathlib.Core.Path.{_≡_, refl, ap, _∙_}
 use mathlib.Core.List.{List}
@@ -34,18 +35,22 @@ short n m l h = take-all n (take m l) (rw (length-take m l) (omega arith))
 -- the words' bytes in each reading
 pub bytes-standard : (r : Reading) (v : List ℕ) → r ≡ Standard → part v 12 (length v) ≡ wordBytes r v
 bytes-standard r v e =
-    rw e (take-all (length v) (drop 12 v) (let h : length (drop 12 v) ≤ length v = omega (arith, length-drop 12 v) in h))
+    rw e (take-all (length v) (drop 12 v) (let h : length (drop 12 v) ≤ length v = omega (arith, length-drop 12 v) in
+    h))
 
-pub bytes-crate : (r : Reading) (v : List ℕ) (n l : ℕ) → r ≡ Crate → n ≡ l - 14 → l ≡ blockLength v → part v 12 n ≡ wordBytes r v
+pub bytes-crate : (r : Reading) (v : List ℕ) (n l : ℕ) → r ≡ Crate → n ≡ l - 14 → l ≡ blockLength v
+    → part v 12 n ≡ wordBytes r v
 bytes-crate r v n l e k q = rw (e, k, q)
 
 -- a listing call's contract, of what is asked said otherwise
-pub listed-as : {whole asked : Or (List ℕ)} {out out′ : List ℕ} {a : Answer} → whole ≡ asked → Listed whole out a out′ → Listed asked out a out′
+pub listed-as : {whole asked : Or (List ℕ)} {out out′ : List ℕ} {a : Answer} → whole ≡ asked → Listed whole out a out′
+    → Listed asked out a out′
 listed-as e l = rw (← e) l
 
 module _ (r : Reading) (a : Rle) (v : List ℕ) where
   -- from the fields and the words' bytes that were read
-  module _ (e : checkOf r (Spans (Chunks a)) v ≡ Fine) (f : Fields) (b : List ℕ) (read : f ≡ fieldsAt v) (bytes : b ≡ wordBytes r v) where
+  module _ (e : checkOf r (Spans (Chunks a)) v ≡ Fine) (f : Fields) (b : List ℕ) (read : f ≡ fieldsAt v)
+      (bytes : b ≡ wordBytes r v) where
     pub numbers-standard : r ≡ Standard → shown (numbersOf (rangeOf f) (words16 b)) ≡ numbersShown r a v
     unfolding numbersShown
     numbers-standard q = rw (read, bytes, e, q)
@@ -53,19 +58,22 @@ module _ (r : Reading) (a : Rle) (v : List ℕ) where
     -- the crate's words are no longer than the longest packet
     crate-words : r ≡ Crate → blockLength v ≤ 262144 → take longest b ≡ take (blockLength v - 14) (drop 12 v)
     crate-words q h =
-        ap (take longest) (bytes ∙ ap (λ (x : Reading). wordBytes x v) q) ∙ short longest (blockLength v - 14) (drop 12 v) (omega arith)
+        ap (take longest) (bytes ∙ ap (λ (x : Reading). wordBytes x v) q)
+        ∙ short longest (blockLength v - 14) (drop 12 v) (omega arith)
 
     pub numbers-crate : r ≡ Crate → blockLength v ≤ 262144
         → shown (crateNumbersFrom (f .end) (f .thinning) (f .begin) (words16 (take longest b))) ≡ numbersShown r a v
     unfolding numbersShown
     numbers-crate q h =
-        ap (λ (l : List ℕ). shown (crateNumbersFrom (f .end) (f .thinning) (f .begin) (words16 l))) (crate-words q h) ∙ (rw (read, e, q))
+        ap (λ (l : List ℕ). shown (crateNumbersFrom (f .end) (f .thinning) (f .begin) (words16 l))) (crate-words q h)
+        ∙ (rw (read, e, q))
 
   words-read : (r : Reading) → wordsIn r v ≡ words16 (wordBytes r v)
   words-read Standard = refl
   words-read Crate = refl
 
-  pub words-fine : (b : List ℕ) → b ≡ wordBytes r v → checkOf r (Spans (Chunks a)) v ≡ Fine → shown (words16 b) ≡ wordsShown r a v
+  pub words-fine : (b : List ℕ) → b ≡ wordBytes r v → checkOf r (Spans (Chunks a)) v ≡ Fine
+      → shown (words16 b) ≡ wordsShown r a v
   unfolding wordsShown
   words-fine b bytes e = rw (bytes, e, words-read r)
 

@@ -11,7 +11,8 @@ use Rattle.def_refusals.specs.declared.Answer.{Answer}
 use Rattle.def_refusals.specs.declared.Answer.the-variants.{Done, Refused}
 use Rattle.def_refusals.specs.declared.Checked.the-variants.{Fine, Unfit}
 use Rattle.def_refusals.specs.Answers.{Or, shown, refused, each}
-use Rattle.laws.proofs.Answering.{answer-listed, answer-full, answer-refused, filled-listed, filled-full, filled-refused}
+use Rattle.laws.proofs.Answering.{answer-listed, answer-full, answer-refused, filled-listed, filled-full}
+use Rattle.laws.proofs.Answering.{filled-refused}
 use Rattle.def_wire.specs.declared.Reading.{Reading}
 use Rattle.def_wire.specs.declared.Reading.the-variants.{Standard, Crate}
 use Rattle.def_wire.specs.declared.Fields.{Fields}
@@ -34,7 +35,8 @@ use Rattle.packet_receipt_time.proofs.PairsLaws.{pairs-standard, pairs-
 
 -- ---- what is asked
 -- a reading's pairs are the first so many of the times
-pairs-read : (r : Reading) (v : List ℕ) → fieldsAt v .begin < 65536 → fieldsAt v .end < 65536 → length (words32 (drop 12 v)) ≤ never
+pairs-read : (r : Reading) (v : List ℕ) → fieldsAt v .begin < 65536 → fieldsAt v .end < 65536
+    → length (words32 (drop 12 v)) ≤ never
     → pairsIn r v ≡ firstPairs (rangeOf (fieldsAt v)) 0 (listable r (fieldsAt v) - 0) (words32 (drop 12 v))
 pairs-read Standard v b e k = pairs-standard (rangeOf (fieldsAt v)) 0 (words32 (drop 12 v))
 pairs-read Crate v b e k = pairs-crate (fieldsAt v) b e 0 (words32 (drop 12 v)) (omega arith) (omega arith)
@@ -45,9 +47,11 @@ range-thinning f = refl
 
 module _ (r : Reading) (v : List ℕ) where
   -- the list that is shown, from the first number, the step and the count that were found
-  pub pairs-fine : checkOf r (Spans Times) v ≡ Fine → fieldsAt v .begin < 65536 → fieldsAt v .end < 65536 → length (words32 (drop 12 v)) ≤ never
+  pub pairs-fine : checkOf r (Spans Times) v ≡ Fine → fieldsAt v .begin < 65536 → fieldsAt v .end < 65536
+      → length (words32 (drop 12 v)) ≤ never
       → (first step n : ℕ) → first ≡ numberOf (rangeOf (fieldsAt v)) 0 → step ≡ stepOf (fieldsAt v .thinning)
-      → n ≡ min (listable r (fieldsAt v)) (length (words32 (drop 12 v))) → pairsShown r v ≡ shown (stepped step first n (words32 (drop 12 v)))
+      → n ≡ min (listable r (fieldsAt v)) (length (words32 (drop 12 v)))
+      → pairsShown r v ≡ shown (stepped step first n (words32 (drop 12 v)))
   unfolding pairsShown
   pairs-fine c b e k first step n f s nn =
       let g = rangeOf (fieldsAt v) in
@@ -55,8 +59,10 @@ module _ (r : Reading) (v : List ℕ) where
       rw c
       (ap shown
       (pairs-read r v b e k
-      ∙ ap (λ (m : ℕ). firstPairs g 0 m ts) (let z : listable r (fieldsAt v) - 0 ≡ listable r (fieldsAt v) = omega arith in z)
-      ∙ first-all g 0 (listable r (fieldsAt v)) ts ∙ first-stepped g 0 (min (listable r (fieldsAt v)) (length ts)) ts ∙ (rw (f, range-thinning (fieldsAt v), s, nn))))
+      ∙ ap (λ (m : ℕ). firstPairs g 0 m ts) (let z : listable r (fieldsAt v) - 0 ≡ listable r (fieldsAt v) = omega
+      arith in z)
+      ∙ first-all g 0 (listable r (fieldsAt v)) ts ∙ first-stepped g 0 (min (listable r (fieldsAt v)) (length ts)) ts
+      ∙ (rw (f, range-thinning (fieldsAt v), s, nn))))
 
   pub pairs-unfit : (x : Refusal) → checkOf r (Spans Times) v ≡ Unfit x → pairsShown r v ≡ refused x
   unfolding pairsShown
@@ -88,23 +94,29 @@ module _ (whole : Or (List Receipt)) (ns ts : List ℕ) where
   abbrev room : ℕ
   room = min (length ns) (length ts)
 
-  pub pairs-listed : (l : List Receipt) (n : ℕ) (ns′ ts′ : List ℕ) → whole ≡ shown l → n ≡ length l → n ≤ room → Stored l ns ts ns′ ts′
+  pub pairs-listed : (l : List Receipt) (n : ℕ) (ns′ ts′ : List ℕ) → whole ≡ shown l → n ≡ length l → n ≤ room
+      → Stored l ns ts ns′ ts′
       → ListedPairs whole ns ts (Done n) ns′ ts′
   pairs-listed l n ns′ ts′ w e h s =
       let k : length l ≤ room = omega arith in
       record {
         answer = answer-listed whole room l n w e k;
-        numbers = filled-listed (each numberIn whole) room ns (map numberIn l) ns′ (ap (each numberIn) w) (rw (length-map l numberIn) k) (s .numbers);
-        times = filled-listed (each timeIn whole) room ts (map timeIn l) ts′ (ap (each timeIn) w) (rw (length-map l timeIn) k) (s .times);
+        numbers = filled-listed (each numberIn whole) room ns (map numberIn l) ns′ (ap (each numberIn) w)
+            (rw (length-map l numberIn) k) (s .numbers);
+        times = filled-listed (each timeIn whole) room ts (map timeIn l) ts′ (ap (each timeIn) w)
+            (rw (length-map l timeIn) k) (s .times);
       }
 
-  pub pairs-full : (l : List Receipt) (n m : ℕ) → whole ≡ shown l → n ≡ length l → m ≡ room → m < n → ListedPairs whole ns ts (Refused (NoRoom n m)) ns ts
+  pub pairs-full : (l : List Receipt) (n m : ℕ) → whole ≡ shown l → n ≡ length l → m ≡ room → m < n
+      → ListedPairs whole ns ts (Refused (NoRoom n m)) ns ts
   pairs-full l n m w e k h =
       let short : room < length l = omega arith in
       record {
         answer = rw k (answer-full whole room l n w e (omega arith));
-        numbers = filled-full (each numberIn whole) room ns (map numberIn l) (ap (each numberIn) w) (rw (length-map l numberIn) short);
-        times = filled-full (each timeIn whole) room ts (map timeIn l) (ap (each timeIn) w) (rw (length-map l timeIn) short);
+        numbers = filled-full (each numberIn whole) room ns (map numberIn l) (ap (each numberIn) w)
+            (rw (length-map l numberIn) short);
+        times = filled-full (each timeIn whole) room ts (map timeIn l) (ap (each timeIn) w)
+            (rw (length-map l timeIn) short);
       }
 
   pub pairs-refused : (x : Refusal) → whole ≡ refused x → ListedPairs whole ns ts (Refused x) ns ts
@@ -117,11 +129,13 @@ module _ (whole : Or (List Receipt)) (ns ts : List ℕ) where
 
 -- the count, the first number and the step, from what was called for them
 module _ (r : Reading) (f : Fields) (v : List ℕ) (read : f ≡ fieldsAt v) where
-  pub count-found : (n a b : ℕ) → n ≡ min a b → a ≡ listable r f → b ≡ length (words32 (drop 12 v)) → n ≡ min (listable r (fieldsAt v)) (length (words32 (drop 12 v)))
+  pub count-found : (n a b : ℕ) → n ≡ min a b → a ≡ listable r f → b ≡ length (words32 (drop 12 v))
+      → n ≡ min (listable r (fieldsAt v)) (length (words32 (drop 12 v)))
   count-found n a b e k q = rw (← read) (e ∙ (rw (k, q)))
 
   pub first-found : (x : ℕ) (g : Range) → x ≡ numberOf g 0 → g ≡ rangeOf f → x ≡ numberOf (rangeOf (fieldsAt v)) 0
   first-found x g e k = rw (← read) (e ∙ (rw k))
 
   pub step-found : (x : ℕ) → x ≡ doubledOf 1 (f .thinning) → x ≡ stepOf (fieldsAt v .thinning)
-  step-found x e = e ∙ ap (λ (a : ℕ). a % 65536) (one-mul (2 ^ (f .thinning))) ∙ ap (λ (q : Fields). stepOf (q .thinning)) read
+  step-found x e = e ∙ ap (λ (a : ℕ). a % 65536) (one-mul (2 ^ (f .thinning)))
+      ∙ ap (λ (q : Fields). stepOf (q .thinning)) read

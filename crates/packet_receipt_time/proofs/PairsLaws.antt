@@ -28,7 +28,8 @@ module _ (g : Range) where
   unfolding firstPairs
   first-none p n ts e = rw e
 
-  pub first-cons : (p n m t : ℕ) (ts : List ℕ) → n ≡ suc m → firstPairs g p n (t ∷ ts) ≡ receipt (numberOf g p) t ∷ firstPairs g (suc p) m ts
+  pub first-cons : (p n m t : ℕ) (ts : List ℕ) → n ≡ suc m
+      → firstPairs g p n (t ∷ ts) ≡ receipt (numberOf g p) t ∷ firstPairs g (suc p) m ts
   unfolding firstPairs
   first-cons p n m t ts e = rw e
 
@@ -47,7 +48,8 @@ module _ (g : Range) where
       ∙ sym (first-cons p (min (suc n) (suc (length ts))) (min n (length ts)) t ts (omega arith))
 
 -- ---- by a first number and a step
-pub first-stepped : (g : Range) (p n : ℕ) (ts : List ℕ) → firstPairs g p n ts ≡ stepped (stepOf (g .thinning)) (numberOf g p) n ts
+pub first-stepped : (g : Range) (p n : ℕ) (ts : List ℕ)
+    → firstPairs g p n ts ≡ stepped (stepOf (g .thinning)) (numberOf g p) n ts
 unfolding firstPairs stepped
 first-stepped g p zero ts = refl
 first-stepped g p (suc n) [] = refl
@@ -60,7 +62,8 @@ module _ (step x : ℕ) where
   unfolding stepped
   stepped-none n ts e = rw e
 
-  pub stepped-cons : (n m t : ℕ) (ts : List ℕ) → n ≡ suc m → stepped step x n (t ∷ ts) ≡ receipt x t ∷ stepped step (onward step x) m ts
+  pub stepped-cons : (n m t : ℕ) (ts : List ℕ) → n ≡ suc m
+      → stepped step x n (t ∷ ts) ≡ receipt x t ∷ stepped step (onward step x) m ts
   unfolding stepped
   stepped-cons n m t ts e = rw e
 
@@ -83,7 +86,8 @@ pairs-standard g p (t ∷ ts) =
     ∙ sym (first-cons g p (insideCount g - p) (insideCount g - suc p) t ts (omega arith))))
     (λ b. let h : insideCount g ≤ p = ltb-false _ _ b in
     rw (is-outside g p h)
-    (rest ∙ first-none g (suc p) (insideCount g - suc p) ts (omega arith) ∙ sym (first-none g p (insideCount g - p) (t ∷ ts) (omega arith))))
+    (rest ∙ first-none g (suc p) (insideCount g - suc p) ts (omega arith)
+    ∙ sym (first-none g p (insideCount g - p) (t ∷ ts) (omega arith))))
 
 -- ---- the crate reading: its numbers are those of the range
 pub sequence-number : (f : Fields) (p : ℕ) → sequenceOf p (f .begin) (f .thinning) ≡ numberOf (rangeOf f) p
@@ -96,17 +100,20 @@ module _ (f : Fields) (fits : f .begin < 65536) (fits-end : f .end < 65536) wher
   abbrev stop : ℕ
   stop = firstFail (f .begin) (f .end) (f .thinning)
 
-  pub pairs-crate : (p : ℕ) (ts : List ℕ) → p + length ts ≤ never → p ≤ stop → cratePairsFrom f p ts ≡ firstPairs (rangeOf f) p (stop - p) ts
+  pub pairs-crate : (p : ℕ) (ts : List ℕ) → p + length ts ≤ never → p ≤ stop
+      → cratePairsFrom f p ts ≡ firstPairs (rangeOf f) p (stop - p) ts
   unfolding cratePairsFrom
   pairs-crate p [] k h = sym (first-nil (rangeOf f) p (stop - p))
   pairs-crate p (t ∷ ts) k h =
       either (ltb p stop)
       (λ b. let l : p < stop = ltb-true _ _ b in
       rw (before-first (f .begin) (f .end) (f .thinning) fits fits-end p l, sequence-number f p)
-      (ap (λ (r : List Receipt). receipt (numberOf (rangeOf f) p) t ∷ r) (pairs-crate (suc p) ts (omega arith) (omega arith))
+      (ap (λ (r : List Receipt). receipt (numberOf (rangeOf f) p) t ∷ r)
+      (pairs-crate (suc p) ts (omega arith) (omega arith))
       ∙ sym (first-cons (rangeOf f) p (stop - p) (stop - suc p) t ts (omega arith))))
       (λ b. let l : stop ≤ p = ltb-false _ _ b in
       let e : p ≡ stop = omega arith in
       let n : stop ≡ never → ⊥ = λ q. omega arith in
-      rw (ap (λ (x : ℕ). passes (f .begin) (f .end) (sequenceOf x (f .begin) (f .thinning))) e ∙ at-first (f .begin) (f .end) (f .thinning) fits fits-end n)
+      rw (ap (λ (x : ℕ). passes (f .begin) (f .end) (sequenceOf x (f .begin) (f .thinning))) e
+      ∙ at-first (f .begin) (f .end) (f .thinning) fits fits-end n)
       (sym (first-none (rangeOf f) p (stop - p) (t ∷ ts) (omega arith))))

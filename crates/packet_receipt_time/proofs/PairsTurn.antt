@@ -34,8 +34,10 @@ module _ (v : List ℕ) (first step n : ℕ) (ns₀ ts₀ : List ℕ) (enough : 
   begun h =
       record {
         here = refl;
-        numbers = rw (← all numberIn) (start (rw (length-map (restAt v step first n 12) numberIn) (omega (arith, whole-length))));
-        times = rw (← all timeIn) (start (rw (length-map (restAt v step first n 12) timeIn) (omega (arith, whole-length))));
+        numbers = rw (← all numberIn) (start (rw (length-map (restAt v step first n 12) numberIn)
+            (omega (arith, whole-length))));
+        times = rw (← all timeIn) (start (rw (length-map (restAt v step first n 12) timeIn)
+            (omega (arith, whole-length))));
       }
 
   module _ (ns ts : List ℕ) (i at x : ℕ) (s : Storing v first step n ns₀ ts₀ ns ts i at x) where
@@ -55,7 +57,8 @@ module _ (v : List ℕ) (first step n : ℕ) (ns₀ ts₀ : List ℕ) (enough : 
       pub room-times : i < length ts
       room-times = within (ap (map timeIn) next) (s .times)
 
-      pub turned : (t y : ℕ) → t ≡ be32 v at → y ≡ onward step x → Storing v first step n ns₀ ts₀ (set ns i x) (set ts i t) (i + 1) (at + 4) y
+      pub turned : (t y : ℕ) → t ≡ be32 v at → y ≡ onward step x
+          → Storing v first step n ns₀ ts₀ (set ns i x) (set ts i t) (i + 1) (at + 4) y
       turned t y e q =
           rw (e, q)
           (record {

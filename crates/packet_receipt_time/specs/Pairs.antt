@@ -1,4 +1,5 @@
--- What the code computes on its way to the definitions' pairs: both readings list a first stretch of the times, with numbers one step apart.
+-- What the code computes on its way to the definitions' pairs: both readings list a first stretch of the times, with
+-- numbers one step apart.
 --     listable      how many positions a reading lists from the first on, whatever times there are
 --     firstPairs    the pairs of n positions from p on
 --     stepped       the same by a first number and a step

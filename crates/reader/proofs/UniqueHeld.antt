@@ -1,5 +1,6 @@
 -- No second answer satisfies the contract of a public function over `Reader`, as rattle reads it from src/.
--- Such a contract is a clause and no relation: `F-says` is what equations it states, `F-unique` that they leave one answer.
+-- Such a contract is a clause and no relation: `F-says` is what equations it states, `F-unique` that they leave one
+-- answer.
 use Prim.Native.Nat.{ℕ}
 use mathlib.Core.Path.{_≡_, refl, sym, _∙_}
 use mathlib.Core.List.{List}

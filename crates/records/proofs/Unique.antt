@@ -27,7 +27,8 @@ PacketReceiptTimes-new-unique-fields κs a r₁ r₂ s₁ s₂ p q = p ∙ sym q
 pub ReceiverReferenceTime-new-unique-time : (κs : Lfts 0) → Fixes (ReceiverReferenceTime-new.Post κs) (λ r s. r .time)
 ReceiverReferenceTime-new-unique-time κs a r₁ r₂ s₁ s₂ p q = p ∙ sym q
 
-pub DelaySinceLastReceiverReport-new-unique-entries : (κs : Lfts 0) → Fixes (DelaySinceLastReceiverReport-new.Post κs) (λ r s. r .entries)
+pub DelaySinceLastReceiverReport-new-unique-entries : (κs : Lfts 0)
+    → Fixes (DelaySinceLastReceiverReport-new.Post κs) (λ r s. r .entries)
 DelaySinceLastReceiverReport-new-unique-entries κs a r₁ r₂ s₁ s₂ p q = p ∙ sym q
 
 pub rle-type-unique : (κs : Lfts 0) → Fixes (rle-type.Post κs) (λ r s. r)

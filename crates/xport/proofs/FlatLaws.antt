@@ -17,7 +17,8 @@ use Rattle.def_cursor.specs.declared.Advanced.{Advanced}
 use Rattle.def_cursor.specs.Cursor.{StretchedBy}
 use Rattle.xport.specs.declared.Flat.{Flat}
 use Rattle.xport.specs.declared.FlatStretch.{FlatStretch}
-use Rattle.xport.specs.Flat.{readingOf, chunkAsked, flatRefusal, flatOf, flatStretch, FlatListed, FlatPairs, FlatEntries, FlatStretched}
+use Rattle.xport.specs.Flat.{readingOf, chunkAsked, flatRefusal, flatOf, flatStretch, FlatListed, FlatPairs}
+use Rattle.xport.specs.Flat.{FlatEntries, FlatStretched}
 
 pub reading-standard : (r : ℕ) → r ≡ 0 → Standard ≡ readingOf r
 unfolding readingOf
@@ -45,7 +46,8 @@ module _ (k value : ℕ) (n : k ≡ 0 → ⊥) where
   kind-vector m o = simp (ne-eqb _ _ n, ne-eqb _ _ m, ne-eqb _ _ o)
 
 -- a listing call, asked of what the question comes to, its answer made flat
-pub flat-listed : {whole asked : Or (List ℕ)} {out out′ : List ℕ} {a : Answer} {f : Flat} → asked ≡ whole → Listed asked out a out′ → f ≡ flatOf a
+pub flat-listed : {whole asked : Or (List ℕ)} {out out′ : List ℕ} {a : Answer} {f : Flat} → asked ≡ whole
+    → Listed asked out a out′ → f ≡ flatOf a
     → FlatListed whole out f out′
 flat-listed e l h = rw (← e) (record { answer = h ∙ ap flatOf (l .answer); filled = l .filled })
 
@@ -53,17 +55,25 @@ pub flat-pairs : {whole asked : Or (List Receipt)} {ns ts ns′ ts′ : List ℕ
     → ListedPairs asked ns ts a ns′ ts′ → f ≡ flatOf a → FlatPairs whole ns ts f ns′ ts′
 flat-pairs e l h = rw (← e) (record { answer = h ∙ ap flatOf (l .answer); numbers = l .numbers; times = l .times })
 
-pub flat-entries : {whole asked : Or (List Echo)} {ss ls ds ss′ ls′ ds′ : List ℕ} {a : Answer} {f : Flat} → asked ≡ whole
+pub flat-entries : {whole asked : Or (List Echo)} {ss ls ds ss′ ls′ ds′ : List ℕ} {a : Answer} {f : Flat}
+    → asked ≡ whole
     → ListedEntries asked ss ls ds a ss′ ls′ ds′ → f ≡ flatOf a → FlatEntries whole ss ls ds f ss′ ls′ ds′
-flat-entries e l h = rw (← e) (record { answer = h ∙ ap flatOf (l .answer); ssrcs = l .ssrcs; lasts = l .lasts; delays = l .delays })
+flat-entries e l h = rw (← e) (record {
+  answer = h ∙ ap flatOf (l .answer);
+  ssrcs = l .ssrcs;
+  lasts = l .lasts;
+  delays = l .delays;
+})
 
 -- a listing call that is turned away before it lists
-pub flat-turned-away : {whole asked : Or (List ℕ)} {out : List ℕ} {f : Flat} (x : Refusal) → asked ≡ whole → asked ≡ refused x → f ≡ flatRefusal x
+pub flat-turned-away : {whole asked : Or (List ℕ)} {out : List ℕ} {f : Flat} (x : Refusal) → asked ≡ whole
+    → asked ≡ refused x → f ≡ flatRefusal x
     → FlatListed whole out f out
 unfolding flatOf
 flat-turned-away {whole} {asked} {out} {f} x e w h = flat-listed e (turned-away asked out x w) h
 
 -- a cursor's call, its answer made flat
-pub flat-stretched : {s : List ℕ} {k t : ℕ} {c : Cursor} {budget : ℕ} {out out′ : List ℕ} {a : Advanced} {f : FlatStretch}
+pub flat-stretched : {s : List ℕ} {k t : ℕ} {c : Cursor} {budget : ℕ} {out out′ : List ℕ} {a : Advanced}
+    {f : FlatStretch}
     → StretchedBy s k t c budget out a out′ → f ≡ flatStretch a → FlatStretched s k t c budget out f out′
 flat-stretched l h = record { answer = h ∙ ap flatStretch (l .answer); filled = l .filled }

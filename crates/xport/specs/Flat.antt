@@ -1,6 +1,8 @@
--- The library's answers as numbers, for callers in other languages. Each is a flat copy of an answer that a definition below gives.
+-- The library's answers as numbers, for callers in other languages. Each is a flat copy of an answer that a
+-- definition below gives.
 --     readingOf      which reading a number asks for
---     flatOf ..      an answer as a code and two values: code 0 and what was found, or document 01's number of the refusal and its two values
+--     flatOf ..      an answer as a code and two values: code 0 and what was found, or document 01's number of the
+--                    refusal and its two values
 --     FlatListed ..  the contracts of the calls that list
 use Prim.Native.Nat.{ℕ, min}
 use mathlib.Core.Bool.{cond}
@@ -69,7 +71,15 @@ flatTime (Time t) = found (t .0) 0
 flatTime (NoTime x) = flatRefusal x
 
 abbrev pub fieldsRow : Flat → Fields → FlatFields
-fieldsRow f g = record { code = f .code; first = f .first; second = f .second; ssrc = g .ssrc; begin = g .begin; end = g .end; thinning = g .thinning }
+fieldsRow f g = record {
+  code = f .code;
+  first = f .first;
+  second = f .second;
+  ssrc = g .ssrc;
+  begin = g .begin;
+  end = g .end;
+  thinning = g .thinning;
+}
 
 abbrev pub noFields : Fields
 noFields = record { ssrc = 0; begin = 0; end = 0; thinning = 0 }
@@ -123,6 +133,7 @@ pub record FlatEntries (whole : Or (List Echo)) (ss ls ds : List ℕ) (r : Flat)
   pub delays : ds′ ≡ filledOf (each (λ x. x .delay .0) whole) (least3 ss ls ds) ds
 
 -- def_cursor's `StretchedBy`
-pub record FlatStretched (s : List ℕ) (k t : ℕ) (c : Cursor) (budget : ℕ) (out : List ℕ) (r : FlatStretch) (out′ : List ℕ) : Type 0 where
+pub record FlatStretched (s : List ℕ) (k t : ℕ) (c : Cursor) (budget : ℕ) (out : List ℕ) (r : FlatStretch)
+    (out′ : List ℕ) : Type 0 where
   pub answer : r ≡ flatStretch (onViewAdvanced (viewOf Standard s k) (λ v. advanceBy t v c budget (length out)))
   pub filled : out′ ≡ onViewFilled (viewOf Standard s k) (λ v. filledBy t v c budget out) out

@@ -9,7 +9,8 @@ use lib.Dec.{ltb, eqb}
 use borrow.Author.Tests.{lt-ltb, le-ltb, eq-eqb, ne-eqb, ltb-false, eqb-true, not-false}
 use Rattle.laws.proofs.Tests.{by-test, true≢false}
 use Rattle.def_refusals.specs.declared.Refusal.{Refusal}
-use Rattle.def_refusals.specs.declared.Refusal.the-variants.{TooShort, WrongVersion, WrongPacketType, WrongLength, BadPadding}
+use Rattle.def_refusals.specs.declared.Refusal.the-variants.{TooShort, WrongVersion, WrongPacketType, WrongLength}
+use Rattle.def_refusals.specs.declared.Refusal.the-variants.{BadPadding}
 use Rattle.def_refusals.specs.declared.Answer.the-variants.{Done, Refused}
 use Rattle.def_wire.specs.declared.Reading.{Reading}
 use Rattle.def_wire.specs.declared.Reading.the-variants.{Standard, Crate}
@@ -37,16 +38,19 @@ module _ (r : Reading) (s : List ℕ) where
       header-type t = rw (le-ltb _ _ long, eq-eqb _ _ v, ne-eqb _ _ t)
 
       module _ (t : byteAt s 1 ≡ 207) where
-        pub header-length : (announcedOf s ≡ length s → ⊥) → Refused (WrongLength (announcedOf s) (length s)) ≡ headerOf r s
+        pub header-length : (announcedOf s ≡ length s → ⊥) → Refused (WrongLength (announcedOf s) (length s))
+            ≡ headerOf r s
         unfolding headerOf
         header-length l = rw (le-ltb _ _ long, eq-eqb _ _ v, eq-eqb _ _ t, ne-eqb _ _ l)
 
         module _ (l : announcedOf s ≡ length s) where
-          pub header-padding : (byteAt s 0 / 32 % 2 ≡ 1) → isBadPadding (paddingOf s) (length s) ≡ true → Refused (BadPadding (paddingOf s)) ≡ headerOf r s
+          pub header-padding : (byteAt s 0 / 32 % 2 ≡ 1) → isBadPadding (paddingOf s) (length s) ≡ true
+              → Refused (BadPadding (paddingOf s)) ≡ headerOf r s
           unfolding headerOf
           header-padding p b = rw (le-ltb _ _ long, eq-eqb _ _ v, eq-eqb _ _ t, eq-eqb _ _ l, eq-eqb _ _ p, b)
 
-          pub header-padded : (byteAt s 0 / 32 % 2 ≡ 1) → isBadPadding (paddingOf s) (length s) ≡ false → Done (stopOf r s) ≡ headerOf r s
+          pub header-padded : (byteAt s 0 / 32 % 2 ≡ 1) → isBadPadding (paddingOf s) (length s) ≡ false
+              → Done (stopOf r s) ≡ headerOf r s
           unfolding headerOf
           header-padded p b = rw (le-ltb _ _ long, eq-eqb _ _ v, eq-eqb _ _ t, eq-eqb _ _ l, eq-eqb _ _ p, b)
 
@@ -59,7 +63,8 @@ pub stop-plain : (r : Reading) (s : List ℕ) → (byteAt s 0 / 32 % 2 ≡ 1 →
 stop-plain Standard s p = rw (ne-eqb _ _ p)
 stop-plain Crate s p = refl
 
-pub stop-standard : (r : Reading) (s : List ℕ) (n : ℕ) → r ≡ Standard → n ≡ paddingOf s → byteAt s 0 / 32 % 2 ≡ 1 → length s - n ≡ stopOf r s
+pub stop-standard : (r : Reading) (s : List ℕ) (n : ℕ) → r ≡ Standard → n ≡ paddingOf s → byteAt s 0 / 32 % 2 ≡ 1
+    → length s - n ≡ stopOf r s
 stop-standard r s n e k p = rw (e, k, eq-eqb _ _ p)
 
 pub stop-crate : (r : Reading) (s : List ℕ) → r ≡ Crate → length s ≡ stopOf r s

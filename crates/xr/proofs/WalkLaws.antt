@@ -18,7 +18,8 @@ use Rattle.def_wire.specs.declared.Reading.{Reading}
 use Rattle.def_wire.specs.declared.Reading.the-variants.{Standard, Crate}
 use Rattle.def_wire.specs.declared.Located.{Located}
 use Rattle.def_wire.specs.declared.Located.the-variants.{At, Missing}
-use Rattle.def_wire.specs.Packet.{headerOf, lengthAt, placeOf, walkFrom, walkTo, countOf, sizeAt, pickBlock, locate, part, viewOf, partAt, bytesAt, startFrom}
+use Rattle.def_wire.specs.Packet.{headerOf, lengthAt, placeOf, walkFrom, walkTo, countOf, sizeAt, pickBlock, locate}
+use Rattle.def_wire.specs.Packet.{part, viewOf, partAt, bytesAt, startFrom}
 use Rattle.xr.specs.Walks.{found}
 use Rattle.xr.proofs.HeaderLaws.{header-fine}
 
@@ -29,11 +30,13 @@ module _ (s : List ℕ) (stop at n : ℕ) where
   walk-end zero h = refl
   walk-end (suc f) h = rw (le-leb _ _ h)
 
-  pub walk-next : (g f : ℕ) → g ≡ suc f → at < stop → lengthAt s at ≤ stop - at → walkFrom s stop g at n ≡ walkFrom s stop f (at + lengthAt s at) (n + 1)
+  pub walk-next : (g f : ℕ) → g ≡ suc f → at < stop → lengthAt s at ≤ stop - at
+      → walkFrom s stop g at n ≡ walkFrom s stop f (at + lengthAt s at) (n + 1)
   unfolding walkFrom
   walk-next g f e h k = rw (e, lt-leb _ _ h, le-ltb _ _ k)
 
-  pub walk-cut : (g f : ℕ) → g ≡ suc f → at < stop → stop - at < lengthAt s at → walkFrom s stop g at n ≡ Refused (BlockTooLong (lengthAt s at) (stop - at))
+  pub walk-cut : (g f : ℕ) → g ≡ suc f → at < stop → stop - at < lengthAt s at
+      → walkFrom s stop g at n ≡ Refused (BlockTooLong (lengthAt s at) (stop - at))
   unfolding walkFrom
   walk-cut g f e h k = rw (e, lt-leb _ _ h, lt-ltb _ _ k)
 
@@ -110,7 +113,8 @@ unfolding countOf
 count-done r s n e = counted-by r s n (headerOf r s) refl e
 
 -- a counted block ends within the packet, and has its four header bytes
-pub counted-within : (r : Reading) (s : List ℕ) (n k : ℕ) → Counted r s n → k < n → placeOf s k + lengthAt s (placeOf s k) ≤ length s
+pub counted-within : (r : Reading) (s : List ℕ) (n k : ℕ) → Counted r s n → k < n
+    → placeOf s k + lengthAt s (placeOf s k) ≤ length s
 counted-within r s n k c l =
     let f = header-fine r s (c .stop) (c .header) in
     omega (arith, f .within, walk-within s (c .stop) (length s) 0 n k (rw (place-zero s) (c .walk)) (omega arith) l)
@@ -133,7 +137,8 @@ at-eq e = (cc, cc)
 same-within : {s : List ℕ} {a b m n : ℕ} → a ≡ b → m ≡ n → Within s a m → Within s b n
 same-within e k w = rw (← e, ← k) w
 
-picked : (r : Reading) (s : List ℕ) (k at n : ℕ) (a : Answer) → countOf r s ≡ a → pickBlock r s k a ≡ At at n → Within s at n
+picked : (r : Reading) (s : List ℕ) (k at n : ℕ) (a : Answer) → countOf r s ≡ a → pickBlock r s k a ≡ At at n
+    → Within s at n
 picked r s k at n (Refused x) e p = missing p
 picked r s k at n (Done m) e p =
     by-test (ltb k m)
@@ -146,7 +151,8 @@ unfolding locate
 located-within r s k at n e = picked r s k at n (countOf r s) refl e
 
 -- the count after an accepted and after a refused header
-pub count-walked : (r : Reading) (s : List ℕ) (stop : ℕ) → headerOf r s ≡ Done stop → walkFrom s stop (length s) 8 0 ≡ countOf r s
+pub count-walked : (r : Reading) (s : List ℕ) (stop : ℕ) → headerOf r s ≡ Done stop
+    → walkFrom s stop (length s) 8 0 ≡ countOf r s
 unfolding countOf
 count-walked r s stop h = rw h
 
@@ -155,7 +161,8 @@ unfolding countOf
 count-refused r s x h = rw h
 
 -- a view's size in each reading
-pub size-standard : (r : Reading) (s : List ℕ) (p n : ℕ) → r ≡ Standard → n ≡ lengthAt s p → At p n ≡ At p (sizeAt r s p)
+pub size-standard : (r : Reading) (s : List ℕ) (p n : ℕ) → r ≡ Standard → n ≡ lengthAt s p
+    → At p n ≡ At p (sizeAt r s p)
 size-standard r s p n e k = rw (e, k)
 
 pub size-crate : (r : Reading) (s : List ℕ) (p : ℕ) → r ≡ Crate → At p (length s - p) ≡ At p (sizeAt r s p)
@@ -172,12 +179,14 @@ view-start p s at n l e h = let k : min at (length s) ≡ at = omega arith in rw
 pub view-none : (s : List ℕ) (l : Located) (x : Refusal) → l ≡ Missing x → part s 0 0 ≡ bytesAt s l
 view-none s l x e = rw e
 
-pub view-none-start : (p : ℕ × ℕ) (s : List ℕ) (l : Located) (x : Refusal) → l ≡ Missing x → startFrom p s 0 ≡ partAt p l
+pub view-none-start : (p : ℕ × ℕ) (s : List ℕ) (l : Located) (x : Refusal) → l ≡ Missing x
+    → startFrom p s 0 ≡ partAt p l
 view-none-start p s l x e = let k : min 0 (length s) ≡ 0 = omega arith in rw (e, k, add-zero)
 
 -- the view of a block that was located, and of one that was not
 pub view-shown : (r : Reading) (s : List ℕ) (k at n : ℕ) → locate r s k ≡ At at n → viewOf r s k ≡ shown (part s at n)
 view-shown r s k at n e = rw e
 
-pub view-refused : (r : Reading) (s : List ℕ) (k : ℕ) (x : Refusal) → locate r s k ≡ Missing x → viewOf r s k ≡ refused x
+pub view-refused : (r : Reading) (s : List ℕ) (k : ℕ) (x : Refusal) → locate r s k ≡ Missing x
+    → viewOf r s k ≡ refused x
 view-refused r s k x e = rw e

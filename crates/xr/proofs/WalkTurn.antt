@@ -18,7 +18,14 @@ use Rattle.xr.proofs.WalkLaws.{walk-end, walk-next, walk-cut, place-nex
 module _ (s : List ℕ) (stop : ℕ) where
   pub begun : 8 ≤ stop → Walking s stop 8 0
   begun h =
-      record { before = h; word = refl; count = omega arith; here = sym (place-zero s); walk = ap (λ (f : ℕ). walkFrom s stop f 8 0) (let k : length s - 0 ≡ length s = omega arith in k) }
+      record {
+        before = h;
+        word = refl;
+        count = omega arith;
+        here = sym (place-zero s);
+        walk = ap
+            (λ (f : ℕ). walkFrom s stop f 8 0) (let k : length s - 0 ≡ length s = omega arith in k);
+      }
 
   module _ (fits : stop ≤ length s) (at n : ℕ) (w : Walking s stop at n) (more : at < stop) where
     -- the fuel of this turn
@@ -35,7 +42,8 @@ module _ (s : List ℕ) (stop : ℕ) where
           walk = sym (walk-next s stop at n (length s - n) (length s - (n + 1)) fuel more l) ∙ w .walk;
         }
 
-    pub cut : stop - at < lengthAt s at → Refused (BlockTooLong (lengthAt s at) (stop - at)) ≡ walkFrom s stop (length s) 8 0
+    pub cut : stop - at < lengthAt s at → Refused (BlockTooLong (lengthAt s at) (stop - at)) ≡ walkFrom s stop
+        (length s) 8 0
     cut l = sym (walk-cut s stop at n (length s - n) (length s - (n + 1)) fuel more l) ∙ w .walk
 
   pub ended : (at n : ℕ) → Walking s stop at n → stop ≤ at → Done n ≡ walkFrom s stop (length s) 8 0
@@ -55,7 +63,8 @@ module _ (s : List ℕ) (stop : ℕ) where
   unreached k at x e = record { cut = λ y q. e; at = λ m q. no q; near = λ m q. no q; ended = λ m q. no q }
 
   -- the whole walk, of the walk to block k and the rest of it
-  pub walked : (k place n : ℕ) (count passed : Answer) → Reach s stop k passed place → passed ≡ Done n → count ≡ walkFrom s stop (length s) 8 0
+  pub walked : (k place n : ℕ) (count passed : Answer) → Reach s stop k passed place → passed ≡ Done n
+      → count ≡ walkFrom s stop (length s) 8 0
       → Walk s stop k count place
   walked k place n count passed r p c =
       record {
@@ -70,5 +79,6 @@ module _ (s : List ℕ) (stop : ℕ) where
             r .at n p .here ∙ ap (placeOf s) q);
       }
 
-  pub walked-cut : (k place : ℕ) (x : Refusal) (passed : Answer) → Reach s stop k passed place → passed ≡ Refused x → Walk s stop k (Refused x) place
+  pub walked-cut : (k place : ℕ) (x : Refusal) (passed : Answer) → Reach s stop k passed place → passed ≡ Refused x
+      → Walk s stop k (Refused x) place
   walked-cut k place x passed r p = record { counted = sym p ∙ r .cut x p; placed = λ m e l. no e }

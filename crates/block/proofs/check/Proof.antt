@@ -10,21 +10,25 @@ use Rattle.block.proofs.check.Statement.{statement}
 use Rattle.block.proofs.check.Tie as tie
 
 -- the type and the length that were taken from the header bytes are the view's
-type-is : (c : tie.After-kind-type) → c .before .block-type .result ≡ typeOf (c .before .before .before .before .args .v .now)
-type-is c = let b = c .before in type-taken (b .before .before .before .args .v .now) _ (b .before .header-data .ensures) _ (b .block-type .ensures)
+type-is : (c : tie.After-kind-type) → c .before .block-type .result ≡ typeOf
+    (c .before .before .before .before .args .v .now)
+type-is c = let b = c .before in type-taken (b .before .before .before .args .v .now) _
+    (b .before .header-data .ensures) _ (b .block-type .ensures)
 
 same : (e : tie.Else1) → let a = e .before .before .before .before .before .args in typeOf (a .v .now) ≡ kindType (a .k)
 same e = sym (type-is (e .before)) ∙ e .if1 .left ∙ e .before .kind-type .ensures
 
 says : (b : tie.After-block-length)
-    → let h = b .before .before .before .before .before .before in b .block-length .result ≡ blockLength (h .before .before .args .v .now)
+    → let h = b .before .before .before .before .before .before in
+    b .block-length .result ≡ blockLength (h .before .before .args .v .now)
 says b = let h = b .before .before .before .before .before .before in
     length-taken (h .before .before .args .v .now) _ (h .header-data .ensures) _ (b .block-length .ensures .0)
 
 returns : tie.Need-returns
 returns c = let k = c .before in
     let a = k .before .before .before .before .args in
-    rw (type-is k) (check-other (a .r) (a .k) (a .v .now) (λ q. c .if1 .taken (type-is k ∙ q ∙ sym (k .kind-type .ensures))))
+    rw (type-is k) (check-other (a .r) (a .k) (a .v .now)
+    (λ q. c .if1 .taken (type-is k ∙ q ∙ sym (k .kind-type .ensures))))
 
 returns-2 : tie.Need-returns-2
 returns-2 c = let e = c .before in

@@ -16,7 +16,8 @@ returns-2 c = let t = c .before in
     let g = t .before .before .before in
     let a = g .before .before .args in
     c .rule .ensures
-    ∙ crate-chunks (a .k) (a .l) (a .left) (g .k .given .0 .0) (t .enum-told .given .0 .0) (g .k .given .1) (t .enum-told .given .1)
+    ∙ crate-chunks (a .k) (a .l) (a .left) (g .k .given .0 .0) (t .enum-told .given .0 .0) (g .k .given .1)
+    (t .enum-told .given .1)
 
 returns-3 : tie.Need-returns-3
 returns-3 c = let g = c .before .before .before in

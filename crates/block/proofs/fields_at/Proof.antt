@@ -9,7 +9,8 @@ use Rattle.block.proofs.fields_at.Tie as tie
 returns : tie.Need-returns
 returns c = let h = c .before .before .before .before in
     let v = h .before .before .args .v .now in
-    let t : c .type-specific-byte .result ≡ specificOf v = specific-taken v _ (h .header-data .ensures) _ (c .type-specific-byte .ensures) in
+    let t : c .type-specific-byte .result ≡ specificOf v = specific-taken v _ (h .header-data .ensures) _
+    (c .type-specific-byte .ensures) in
     cc
 
 pub fields-at-spec : {M : Type 1} → statement M

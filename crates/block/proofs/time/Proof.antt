@@ -9,7 +9,8 @@ returns : tie.Need-returns
 returns c = let t = c .before in
     let h = t .before .before in
     let a = h .before .before .args in
-    rw (c .u64-from-be-bytes .ensures) (time-shown (a .r) (a .v .now) (sym (h .check .ensures) ∙ t .enum-told .given .1))
+    rw (c .u64-from-be-bytes .ensures) (time-shown (a .r) (a .v .now)
+    (sym (h .check .ensures) ∙ t .enum-told .given .1))
 
 returns-2 : tie.Need-returns-2
 returns-2 c = let x = c .before in

@@ -16,7 +16,8 @@ returns c = let n = c .before .before in
     let g = n .before .before .before in
     let t = g .before .before in
     let a = t .before .before .before .args in
-    listed-as (view-served (a .r) (a .v .now) 0 (a .t) (g .a .given .0 .0) (sym (t .rle-of .ensures) ∙ g .a .given .1) (a .v .now)) (n .numbers .ensures)
+    listed-as (view-served (a .r) (a .v .now) 0 (a .t) (g .a .given .0 .0) (sym (t .rle-of .ensures) ∙ g .a .given .1)
+    (a .v .now)) (n .numbers .ensures)
 
 returns-2 : tie.Need-returns-2
 returns-2 c = let h = c .before in
@@ -25,7 +26,8 @@ returns-2 c = let h = c .before in
     let a = t .before .before .before .args in
     turned-away _ (a .out .now) _
     (view-other (a .r) (a .v .now) 0 (a .t) (sym (t .rle-of .ensures) ∙ e .enum-told .given .1) (a .v .now)
-    ∙ ap (λ (b : ℕ). refused (OtherType b)) (sym (type-taken (a .v .now) _ (h .header-data .ensures) _ (c .block-type .ensures))))
+    ∙ ap (λ (b : ℕ). refused (OtherType b)) (sym (type-taken (a .v .now) _ (h .header-data .ensures) _
+    (c .block-type .ensures))))
 
 pub numbers-view-spec : {M : Type 1} → statement M
 numbers-view-spec =

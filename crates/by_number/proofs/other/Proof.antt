@@ -15,14 +15,17 @@ returns c = let h = c .before in
     let p = q .before .before in
     let l = p .before .before in
     let a = l .before .before .args in
-    ap OtherType (type-taken (q .part .result .now) _ (h .header-data .ensures) _ (c .block-type .ensures) ∙ ap typeOf (q .part .ensures .0))
-    ∙ ap otherOf (sym (view-shown (a .r) (a .s .now) (a .k) (p .at .given .0 .0) (p .at .given .0 .1 .0) (sym (l .locate .ensures) ∙ p .at .given .1)))
+    ap OtherType (type-taken (q .part .result .now) _ (h .header-data .ensures) _ (c .block-type .ensures)
+    ∙ ap typeOf (q .part .ensures .0))
+    ∙ ap otherOf (sym (view-shown (a .r) (a .s .now) (a .k) (p .at .given .0 .0) (p .at .given .0 .1 .0)
+    (sym (l .locate .ensures) ∙ p .at .given .1)))
 
 returns-2 : tie.Need-returns-2
 returns-2 c = let p = c .before in
     let l = p .before .before in
     let a = l .before .before .args in
-    ap otherOf (sym (view-refused (a .r) (a .s .now) (a .k) (p .x .given .0 .0) (sym (l .locate .ensures) ∙ p .x .given .1)))
+    ap otherOf (sym (view-refused (a .r) (a .s .now) (a .k) (p .x .given .0 .0)
+    (sym (l .locate .ensures) ∙ p .x .given .1)))
 
 pub other-spec : {M : Type 1} → statement M
 other-spec =

@@ -8,7 +8,8 @@ use Rattle.cursor.proofs.advance.Statement.{statement}
 use Rattle.cursor.proofs.advance.Tie as tie
 
 advance-words-requires : tie.Need-advance-words-requires
-advance-words-requires c κs = let r = c .before .before in rw (r .range-of .ensures) (range-fits (r .before .fields-at .result))
+advance-words-requires c κs = let r = c .before .before in
+    rw (r .range-of .ensures) (range-fits (r .before .fields-at .result))
 
 returns : tie.Need-returns
 returns c = let w = c .before .before in
@@ -16,15 +17,18 @@ returns c = let w = c .before .before in
     let r = q .before in
     let k = r .before .before .before .before in
     let a = k .before .before .before .args in
-    let g : r .range-of .result ≡ rangeOf (fieldsAt (a .v .now)) = r .range-of .ensures ∙ ap rangeOf (r .before .fields-at .ensures) in
-    stretched-fit (a .a) (a .v .now) (a .c) (a .budget) (a .out .now) (w .advance-words .result) _ (sym (k .check .ensures) ∙ r .before .before .enum-told .given .1)
+    let g : r .range-of .result ≡ rangeOf (fieldsAt (a .v .now)) = r .range-of .ensures
+    ∙ ap rangeOf (r .before .fields-at .ensures) in
+    stretched-fit (a .a) (a .v .now) (a .c) (a .budget) (a .out .now) (w .advance-words .result) _
+    (sym (k .check .ensures) ∙ r .before .before .enum-told .given .1)
     (rw (← g, ← words-behind (a .v .now), ← q .part .ensures .0) (w .advance-words .ensures))
 
 returns-2 : tie.Need-returns-2
 returns-2 c = let x = c .before in
     let k = x .before .before in
     let a = k .before .before .before .args in
-    stretched-unfit (a .a) (a .v .now) (a .c) (a .budget) (a .out .now) (x .x .given .0 .0) (sym (k .check .ensures) ∙ x .x .given .1)
+    stretched-unfit (a .a) (a .v .now) (a .c) (a .budget) (a .out .now) (x .x .given .0 .0)
+    (sym (k .check .ensures) ∙ x .x .given .1)
 
 pub advance-spec : {M : Type 1} → statement M
 advance-spec =

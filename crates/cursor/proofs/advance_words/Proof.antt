@@ -11,18 +11,21 @@ use Rattle.cursor.proofs.advance_words.Statement.{statement}
 use Rattle.cursor.proofs.advance_words.Tie as tie
 
 -- the cursor is legal
-stands : (c : tie.Else1) → let a = c .before .before .before .before .args in legal (words16 (a .bytes .now)) (a .c) ≡ true
+stands : (c : tie.Else1) → let a = c .before .before .before .before .args in
+    legal (words16 (a .bytes .now)) (a .c) ≡ true
 stands c = sym (c .before .is-legal .ensures) ∙ not-false _ (c .if1 .left)
 
 returns : tie.Need-returns
 returns c = let k = c .before in
     let a = k .before .before .before .args in
-    advancing-illegal (a .g) (words16 (a .bytes .now)) (a .c) (a .budget) (a .out .now) (sym (k .is-legal .ensures) ∙ not-true _ (c .if1 .taken))
+    advancing-illegal (a .g) (words16 (a .bytes .now)) (a .c) (a .budget) (a .out .now)
+    (sym (k .is-legal .ensures) ∙ not-true _ (c .if1 .taken))
 
 returns-2 : tie.Need-returns-2
 returns-2 c = let k = c .before .before in
     let a = k .before .before .before .args in
-    advancing-full (a .g) (words16 (a .bytes .now)) (a .c) (a .budget) (a .out .now) (stands (c .before)) (c .if2 .taken)
+    advancing-full (a .g) (words16 (a .bytes .now)) (a .c) (a .budget) (a .out .now) (stands (c .before))
+    (c .if2 .taken)
 
 go-requires : tie.Need-go-requires
 go-requires c κs = let e = c .before in
@@ -33,7 +36,8 @@ returns-3 : tie.Need-returns-3
 returns-3 c = let r = c .before .before in
     let e = r .before .before in
     let a = e .before .before .before .before .before .args in
-    advancing-gone (a .g) (words16 (a .bytes .now)) (a .c) (a .budget) (a .out .now) (r .go .result) _ (stands (e .before)) (e .if2 .left) (r .go .ensures)
+    advancing-gone (a .g) (words16 (a .bytes .now)) (a .c) (a .budget) (a .out .now) (r .go .result) _
+    (stands (e .before)) (e .if2 .left) (r .go .ensures)
 
 pub advance-words-spec : {M : Type 1} → statement M
 advance-words-spec =

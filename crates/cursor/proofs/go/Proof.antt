@@ -27,7 +27,8 @@ use Rattle.cursor.proofs.go.Tie as tie
 
 abbrev Inv-loop : tie.InvT-loop
 Inv-loop bytes g budget out₀ words step inside at₀ left₀ n₀ out at left n =
-    Going (words16 bytes) at₀ budget at left × Filling (listedBy g (words16 bytes) budget at₀) out₀ out (listedBy g (words16 bytes) left at) n
+    Going (words16 bytes) at₀ budget at left × Filling (listedBy g (words16 bytes) budget at₀) out₀ out
+    (listedBy g (words16 bytes) left at) n
 
 abbrev μ-loop : tie.MeasureT-loop
 μ-loop bytes g budget out₀ words step inside at₀ left₀ n₀ out at left n = left
@@ -52,7 +53,8 @@ next l m = movedIn (word l) m (l .loop .at)
 
 abbrev added : tie.At-loop Inv-loop μ-loop → ℕ → List ℕ
 added l m = let g = entry l .args .g in
-    along (stepOf (g .thinning)) (numberOf g (l .loop .at .position)) (placesIn (word l) (l .loop .at .place) (min m (insideCount g - l .loop .at .position)))
+    along (stepOf (g .thinning)) (numberOf g (l .loop .at .position))
+    (placesIn (word l) (l .loop .at .place) (min m (insideCount g - l .loop .at .position)))
 
 -- the loop's head, from where the turn's steps are counted
 abbrev head : tie.After-lesser Inv-loop μ-loop → tie.At-loop Inv-loop μ-loop
@@ -65,25 +67,30 @@ has c = let l = c .before .before in omega (arith, length-pairUp 256 (entry l .a
 placed : (c : tie.Else1 Inv-loop μ-loop) → let l = c .before .before in l .loop .at .place < stepsIn (word l)
 placed c = let l = c .before .before in legal-place (words-of l) (l .loop .at) (l .loop .inv .0 .stands) (has c)
 
-steps : (c : tie.After-steps-in Inv-loop μ-loop) → let l = c .before .before .before .before in c .steps-in .result ≡ stepsIn (word l)
+steps : (c : tie.After-steps-in Inv-loop μ-loop) → let l = c .before .before .before .before in
+    c .steps-in .result ≡ stepsIn (word l)
 steps c = c .steps-in .ensures ∙ ap stepsIn (c .before .word-at .ensures)
 
 counted : (c : tie.After-lesser Inv-loop μ-loop) → let l = head c in c .lesser .result ≡ min (l .loop .left) (takes l)
-counted c = let l = head c in c .lesser .ensures ∙ ap (λ (n : ℕ). min (l .loop .left) (n - l .loop .at .place)) (steps (c .before .before))
+counted c = let l = head c in c .lesser .ensures ∙ ap (λ (n : ℕ). min (l .loop .left) (n - l .loop .at .place))
+    (steps (c .before .before))
 
 -- m steps that there are: where they lead, and what they list
-module _ (c : tie.Else1 Inv-loop μ-loop) (m : ℕ) (low : m ≤ c .before .before .loop .left) (few : m ≤ takes (c .before .before)) where
+module _ (c : tie.Else1 Inv-loop μ-loop) (m : ℕ) (low : m ≤ c .before .before .loop .left)
+    (few : m ≤ takes (c .before .before)) where
   abbrev at-loop : tie.At-loop Inv-loop μ-loop
   at-loop = c .before .before
 
   ends : at-loop .loop .at .place + m ≤ stepsIn (word at-loop)
   ends = omega (arith, placed c)
 
-  goes : Going (words-of at-loop) (entry at-loop .args .c) (entry at-loop .args .budget) (next at-loop m) (at-loop .loop .left - m)
+  goes : Going (words-of at-loop) (entry at-loop .args .c) (entry at-loop .args .budget) (next at-loop m)
+      (at-loop .loop .left - m)
   goes = going-on (at-loop .loop .inv .0) (has c) m low ends
 
   turn : listedBy (entry at-loop .args .g) (words-of at-loop) (at-loop .loop .left) (at-loop .loop .at)
-      ≡ added at-loop m ++ listedBy (entry at-loop .args .g) (words-of at-loop) (at-loop .loop .left - m) (next at-loop m)
+      ≡ added at-loop m ++ listedBy (entry at-loop .args .g) (words-of at-loop) (at-loop .loop .left - m)
+      (next at-loop m)
   turn = going-listed (at-loop .loop .inv .0) (has c) m low ends (entry at-loop .args .g) (entry at-loop .pre .0)
 
 -- the step that is computed once
@@ -94,11 +101,14 @@ stepped l = l .before .before .doubled .ensures ∙ (rw (one-mul (2 ^ (entry l .
 inner : (c : tie.After-lesser2 Inv-loop μ-loop) → let m = c .before .before in let l = head m in
     c .lesser2 .result ≡ min (m .lesser .result) (insideCount (entry l .args .g) - l .loop .at .position)
 inner c = let m = c .before .before in let l = head m in
-    c .lesser2 .ensures ∙ ap (min (m .lesser .result)) (c .before .above .ensures ∙ ap (λ (n : ℕ). n - l .loop .at .position) (l .before .inside-count .ensures))
+    c .lesser2 .ensures ∙ ap (min (m .lesser .result)) (c .before .above .ensures
+    ∙ ap (λ (n : ℕ). n - l .loop .at .position) (l .before .inside-count .ensures))
 
 -- the numbers that the call stores are those
-asked : (c : tie.After-number-at Inv-loop μ-loop) (k : ℕ) → let r = c .before in let m = r .before .before in let l = head m in m .lesser .result ≡ k
-    → along (l .before .before .doubled .result) (c .number-at .result) (placesIn (m .before .before .before .word-at .result) (l .loop .at .place) (r .lesser2 .result)) ≡ added l k
+asked : (c : tie.After-number-at Inv-loop μ-loop) (k : ℕ)
+    → let r = c .before in let m = r .before .before in let l = head m in m .lesser .result ≡ k
+    → along (l .before .before .doubled .result) (c .number-at .result)
+    (placesIn (m .before .before .before .word-at .result) (l .loop .at .place) (r .lesser2 .result)) ≡ added l k
 asked c k e = let r = c .before in let m = r .before .before in let l = head m in
     along-same (l .loop .at .place) (stepped l) (c .number-at .ensures) (m .before .before .before .word-at .ensures)
     (inner r ∙ ap (λ (n : ℕ). min n (insideCount (entry l .args .g) - l .loop .at .position)) e)
@@ -112,12 +122,19 @@ stored c k e h = let l = head (c .before .before .before .before .before) in
 
 loop-holds : tie.Need-loop-holds Inv-loop μ-loop
 loop-holds c = let s = c .before .before .before .before in
-    let a = s .args in
-    (begin-going (s .pre .1 .0), start (omega (arith, s .pre .1 .1, listed-le (a .g) (words16 (a .bytes .now)) (a .budget) (a .c))))
+    let a = s .args in (
+      begin-going (s .pre .1 .0),
+      start (omega (
+        arith,
+        s .pre .1 .1,
+        listed-le (a .g) (words16 (a .bytes .now)) (a .budget) (a .c),
+      )),
+    )
 
 returns : tie.Need-returns Inv-loop μ-loop
 returns c = let l = c .before .before in
-    gone-end (l .loop .inv .0) (entry l .args .g) (l .loop .inv .1) (omega (arith, length-pairUp 256 (entry l .args .bytes .now), c .if1 .taken))
+    gone-end (l .loop .inv .0) (entry l .args .g) (l .loop .inv .1)
+    (omega (arith, length-pairUp 256 (entry l .args .bytes .now), c .if1 .taken))
 
 word-at-requires : tie.Need-word-at-requires Inv-loop μ-loop
 word-at-requires c κs = has c
@@ -129,8 +146,11 @@ moved-requires : tie.Need-moved-requires Inv-loop μ-loop
 moved-requires c κs = let m = c .before .before .before .before .before .before .before .before in
     let e = m .before .before .before .before in
     let l = head m in
-    let w : m .before .before .before .word-at .result ≡ word l = m .before .before .before .word-at .ensures in
-    (legal-position (words-of l) (l .loop .at) (l .loop .inv .0 .stands), rw w (omega (arith, c .if2 .taken, steps (m .before .before), placed e)), omega (arith, has e, length-pairUp 256 (entry l .args .bytes .now)))
+    let w : m .before .before .before .word-at .result ≡ word l = m .before .before .before .word-at .ensures in (
+      legal-position (words-of l) (l .loop .at) (l .loop .inv .0 .stands),
+      rw w (omega (arith, c .if2 .taken, steps (m .before .before), placed e)),
+      omega (arith, has e, length-pairUp 256 (entry l .args .bytes .now)),
+    )
 
 returns-2 : tie.Need-returns-2 Inv-loop μ-loop
 returns-2 c = let t = c .before in
@@ -140,7 +160,8 @@ returns-2 c = let t = c .before in
     let l = head m in
     let f : l .loop .left ≤ takes l = omega (arith, t .if2 .taken, steps (m .before .before)) in
     let k : m .lesser .result ≡ l .loop .left = omega (arith, counted m, f) in
-    let n : c .moved .result ≡ next l (l .loop .left) = c .moved .ensures ∙ ap (λ (v : ℕ). movedIn v (l .loop .left) (l .loop .at)) (m .before .before .before .word-at .ensures) in
+    let n : c .moved .result ≡ next l (l .loop .left) = c .moved .ensures
+    ∙ ap (λ (v : ℕ). movedIn v (l .loop .left) (l .loop .at)) (m .before .before .before .word-at .ensures) in
     let s = turn e (l .loop .left) (omega arith) f in
     let i = l .loop .inv .1 in
     rw n
@@ -151,8 +172,11 @@ moved-requires-2 : tie.Need-moved-requires-2 Inv-loop μ-loop
 moved-requires-2 c κs = let m = c .before .before .before .before .before .before .before .before in
     let e = m .before .before .before .before in
     let l = head m in
-    let w : m .before .before .before .word-at .result ≡ word l = m .before .before .before .word-at .ensures in
-    (legal-position (words-of l) (l .loop .at) (l .loop .inv .0 .stands), rw w (omega (arith, steps (m .before .before), placed e)), omega (arith, has e, length-pairUp 256 (entry l .args .bytes .now)))
+    let w : m .before .before .before .word-at .result ≡ word l = m .before .before .before .word-at .ensures in (
+      legal-position (words-of l) (l .loop .at) (l .loop .inv .0 .stands),
+      rw w (omega (arith, steps (m .before .before), placed e)),
+      omega (arith, has e, length-pairUp 256 (entry l .args .bytes .now)),
+    )
 
 loop-less : tie.Need-loop-less Inv-loop μ-loop
 loop-less c = let m = c .before .before .before .before .before .before .before .before .before in
@@ -168,7 +192,8 @@ loop-again c = let t = c .before in
     let a : ℕ = m .before .before .steps-in .result - l .loop .at .place in
     let q : a ≡ takes l = ap (λ (n : ℕ). n - l .loop .at .place) (steps (m .before .before)) in
     let k : m .lesser .result ≡ a = omega (arith, counted m, t .if2 .left, q) in
-    let n : c .moved2 .result ≡ next l a = c .moved2 .ensures ∙ ap (λ (v : ℕ). movedIn v a (l .loop .at)) (m .before .before .before .word-at .ensures) in
+    let n : c .moved2 .result ≡ next l a = c .moved2 .ensures
+    ∙ ap (λ (v : ℕ). movedIn v a (l .loop .at)) (m .before .before .before .word-at .ensures) in
     let s = turn e a (t .if2 .left) (omega arith) in
     let i = l .loop .inv .1 in
     rw n (goes e a (t .if2 .left) (omega arith), wrote s (stored p a k (room-for (added l a) _ s i)) i)

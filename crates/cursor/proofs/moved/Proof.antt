@@ -18,7 +18,12 @@ returns c = let t = c .before in
     let s = l .before .before in
     let a = s .args in
     let h : a .c .place + a .m < stepsIn (a .w) = rw (← t .before .steps-in .ensures) (t .if1 .taken) in
-    rw (moved-inner (a .w) (a .c .word) (a .c .place) (a .c .position) (a .m) h, p .lesser2 .ensures, l .lesser .ensures, l .before .covers .ensures)
+    rw (
+      moved-inner (a .w) (a .c .word) (a .c .place) (a .c .position) (a .m) h,
+      p .lesser2 .ensures,
+      l .lesser .ensures,
+      l .before .covers .ensures,
+    )
 
 returns-2 : tie.Need-returns-2
 returns-2 c = let t = c .before in
@@ -27,7 +32,12 @@ returns-2 c = let t = c .before in
     let s = l .before .before in
     let a = s .args in
     let h : stepsIn (a .w) ≤ a .c .place + a .m = rw (← t .before .steps-in .ensures) (t .if1 .left) in
-    rw (moved-last (a .w) (a .c .word) (a .c .place) (a .c .position) (a .m) h, p .lesser2 .ensures, l .lesser .ensures, l .before .covers .ensures)
+    rw (
+      moved-last (a .w) (a .c .word) (a .c .place) (a .c .position) (a .m) h,
+      p .lesser2 .ensures,
+      l .lesser .ensures,
+      l .before .covers .ensures,
+    )
 
 pub moved-spec : {M : Type 1} → statement M
 moved-spec =

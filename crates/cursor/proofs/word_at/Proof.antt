@@ -10,13 +10,21 @@ mul-at : tie.Need-mul-at
 mul-at c = omega (arith, length-pairUp 256 (c .before .args .bytes .now), c .before .pre)
 
 shared-slice-read-pair : tie.Need-shared-slice-read-pair
-shared-slice-read-pair c = omega (arith, length-pairUp 256 (c .before .before .args .bytes .now), c .before .before .pre)
+shared-slice-read-pair c = omega (
+  arith,
+  length-pairUp 256 (c .before .before .args .bytes .now),
+  c .before .before .pre,
+)
 
 add-pair : tie.Need-add-pair
 add-pair c = omega (arith, length-pairUp 256 (c .before .before .args .bytes .now), c .before .before .pre)
 
 shared-slice-read-pair-2 : tie.Need-shared-slice-read-pair-2
-shared-slice-read-pair-2 c = omega (arith, length-pairUp 256 (c .before .before .before .args .bytes .now), c .before .before .before .pre)
+shared-slice-read-pair-2 c = omega (
+  arith,
+  length-pairUp 256 (c .before .before .before .args .bytes .now),
+  c .before .before .before .pre,
+)
 
 returns : tie.Need-returns
 returns c = let s = c .before .before .before .before in

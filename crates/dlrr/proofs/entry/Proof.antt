@@ -4,7 +4,11 @@ use Rattle.dlrr.proofs.entry.Statement.{statement}
 use Rattle.dlrr.proofs.entry.Tie as tie
 
 returns : tie.Need-returns
-returns c = rw (c .before .before .u32-from-be-bytes .ensures, c .before .u32-from-be-bytes2 .ensures, c .u32-from-be-bytes3 .ensures)
+returns c = rw (
+  c .before .before .u32-from-be-bytes .ensures,
+  c .before .u32-from-be-bytes2 .ensures,
+  c .u32-from-be-bytes3 .ensures,
+)
 
 pub entry-spec : {M : Type 1} → statement M
 entry-spec =

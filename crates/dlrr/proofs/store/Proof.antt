@@ -7,7 +7,8 @@ use Rattle.dlrr.proofs.store.Statement.{statement}
 use Rattle.dlrr.proofs.store.Tie as tie
 
 abbrev Inv-loop : tie.InvT-loop
-Inv-loop v n ssrcs₀ lasts₀ delays₀ i₀ at₀ ssrcs lasts delays i at = Storing v ssrcs₀ lasts₀ delays₀ ssrcs lasts delays i at
+Inv-loop v n ssrcs₀ lasts₀ delays₀ i₀ at₀ ssrcs lasts delays i at = Storing v ssrcs₀ lasts₀ delays₀ ssrcs lasts delays
+    i at
 
 abbrev μ-loop : tie.MeasureT-loop
 μ-loop v n ssrcs₀ lasts₀ delays₀ i₀ at₀ ssrcs lasts delays i at = n - i
@@ -21,35 +22,44 @@ entry-requires : tie.Need-entry-requires Inv-loop μ-loop
 entry-requires c κs = let l = c .before in
     let b = l .before .before .before .before .before in
     let a = b .args in
-    whole (a .v .now) (a .ssrcs .now) (a .lasts .now) (a .delays .now) (a .n) (b .pre .0) (l .loop .ssrcs) (l .loop .lasts) (l .loop .delays) (l .loop .i) (l .loop .at) (l .loop .inv) (c .loop-test .taken)
+    whole (a .v .now) (a .ssrcs .now) (a .lasts .now) (a .delays .now) (a .n) (b .pre .0) (l .loop .ssrcs)
+    (l .loop .lasts) (l .loop .delays) (l .loop .i) (l .loop .at) (l .loop .inv) (c .loop-test .taken)
 
 slice-write-ssrcs : tie.Need-slice-write-ssrcs Inv-loop μ-loop
 slice-write-ssrcs c = let t = c .before .before .before in
     let l = t .before in
     let b = l .before .before .before .before .before in
     let a = b .args in
-    room-ssrcs (a .v .now) (a .ssrcs .now) (a .lasts .now) (a .delays .now) (a .n) (b .pre .0) (l .loop .ssrcs) (l .loop .lasts) (l .loop .delays) (l .loop .i) (l .loop .at) (l .loop .inv) (t .loop-test .taken)
+    room-ssrcs (a .v .now) (a .ssrcs .now) (a .lasts .now) (a .delays .now) (a .n) (b .pre .0) (l .loop .ssrcs)
+    (l .loop .lasts) (l .loop .delays) (l .loop .i) (l .loop .at) (l .loop .inv) (t .loop-test .taken)
 
 slice-write-lasts : tie.Need-slice-write-lasts Inv-loop μ-loop
 slice-write-lasts c = let t = c .before .before .before in
     let l = t .before in
     let b = l .before .before .before .before .before in
     let a = b .args in
-    room-lasts (a .v .now) (a .ssrcs .now) (a .lasts .now) (a .delays .now) (a .n) (b .pre .0) (l .loop .ssrcs) (l .loop .lasts) (l .loop .delays) (l .loop .i) (l .loop .at) (l .loop .inv) (t .loop-test .taken)
+    room-lasts (a .v .now) (a .ssrcs .now) (a .lasts .now) (a .delays .now) (a .n) (b .pre .0) (l .loop .ssrcs)
+    (l .loop .lasts) (l .loop .delays) (l .loop .i) (l .loop .at) (l .loop .inv) (t .loop-test .taken)
 
 slice-write-delays : tie.Need-slice-write-delays Inv-loop μ-loop
 slice-write-delays c = let t = c .before .before .before in
     let l = t .before in
     let b = l .before .before .before .before .before in
     let a = b .args in
-    room-delays (a .v .now) (a .ssrcs .now) (a .lasts .now) (a .delays .now) (a .n) (b .pre .0) (l .loop .ssrcs) (l .loop .lasts) (l .loop .delays) (l .loop .i) (l .loop .at) (l .loop .inv) (t .loop-test .taken)
+    room-delays (a .v .now) (a .ssrcs .now) (a .lasts .now) (a .delays .now) (a .n) (b .pre .0) (l .loop .ssrcs)
+    (l .loop .lasts) (l .loop .delays) (l .loop .i) (l .loop .at) (l .loop .inv) (t .loop-test .taken)
 
 add-at : tie.Need-add-at Inv-loop μ-loop
 add-at c = let t = c .before .before .before in
     let l = t .before in
     let b = l .before .before .before .before .before in
     let a = b .args in
-    omega (arith, whole (a .v .now) (a .ssrcs .now) (a .lasts .now) (a .delays .now) (a .n) (b .pre .0) (l .loop .ssrcs) (l .loop .lasts) (l .loop .delays) (l .loop .i) (l .loop .at) (l .loop .inv) (t .loop-test .taken))
+    omega (
+      arith,
+      whole (a .v .now) (a .ssrcs .now) (a .lasts .now) (a .delays .now) (a .n) (b .pre .0)
+          (l .loop .ssrcs) (l .loop .lasts) (l .loop .delays) (l .loop .i) (l .loop .at) (l .loop .inv)
+          (t .loop-test .taken),
+    )
 
 loop-again : tie.Need-loop-again Inv-loop μ-loop
 loop-again c = let e = c .before .before in
@@ -57,13 +67,16 @@ loop-again c = let e = c .before .before in
     let l = t .before in
     let b = l .before .before .before .before .before in
     let a = b .args in
-    turned (a .v .now) (a .ssrcs .now) (a .lasts .now) (a .delays .now) (a .n) (b .pre .0) (l .loop .ssrcs) (l .loop .lasts) (l .loop .delays) (l .loop .i) (l .loop .at) (l .loop .inv) (t .loop-test .taken) (e .entry .result) (e .entry .ensures)
+    turned (a .v .now) (a .ssrcs .now) (a .lasts .now) (a .delays .now) (a .n) (b .pre .0) (l .loop .ssrcs)
+    (l .loop .lasts) (l .loop .delays) (l .loop .i) (l .loop .at) (l .loop .inv) (t .loop-test .taken)
+    (e .entry .result) (e .entry .ensures)
 
 returns : tie.Need-returns Inv-loop μ-loop
 returns c = let l = c .before in
     let b = l .before .before .before .before .before in
     let a = b .args in
-    ended (a .v .now) (a .ssrcs .now) (a .lasts .now) (a .delays .now) (a .n) (b .pre .0) (l .loop .ssrcs) (l .loop .lasts) (l .loop .delays) (l .loop .i) (l .loop .at) (l .loop .inv) (c .loop-test .left)
+    ended (a .v .now) (a .ssrcs .now) (a .lasts .now) (a .delays .now) (a .n) (b .pre .0) (l .loop .ssrcs)
+    (l .loop .lasts) (l .loop .delays) (l .loop .i) (l .loop .at) (l .loop .inv) (c .loop-test .left)
 
 pub store-spec : {M : Type 1} → statement M
 store-spec =

@@ -7,7 +7,8 @@ use Rattle.dump.proofs.blocks.Statement.{statement}
 use Rattle.dump.proofs.blocks.Tie as tie
 
 abbrev Inv-loop : tie.InvT-loop
-Inv-loop r packet count buf₀ at k₀ place₀ n₀ buf k place n = (k ≤ count) × (n ≤ length buf₀) × (length buf ≡ length buf₀)
+Inv-loop r packet count buf₀ at k₀ place₀ n₀ buf k place n = (k ≤ count) × (n ≤ length buf₀)
+    × (length buf ≡ length buf₀)
 
 abbrev μ-loop : tie.MeasureT-loop
 μ-loop r packet count buf₀ at k₀ place₀ n₀ buf k place n = count - k

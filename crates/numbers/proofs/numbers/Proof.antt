@@ -19,8 +19,10 @@ returns c = let fs = c .before .before in
     let f = w .before in
     let h = f .before .before .before in
     let a = h .before .before .before .args in
-    let e = numbers-standard (a .r) (a .a) (a .v .now) (sym (h .check .ensures) ∙ f .before .enum-told .given .1) (f .fields-at .result) _ (f .fields-at .ensures) (w .word-bytes .ensures) (t .enum-told2 .given .1) in
-    listed-as (ap (λ (q : Range). shown (numbersOf q (words16 (w .word-bytes .result .now)))) (g .range-of .ensures) ∙ e) (fs .fill-standard .ensures)
+    let e = numbers-standard (a .r) (a .a) (a .v .now) (sym (h .check .ensures) ∙ f .before .enum-told .given .1)
+    (f .fields-at .result) _ (f .fields-at .ensures) (w .word-bytes .ensures) (t .enum-told2 .given .1) in
+    listed-as (ap (λ (q : Range). shown (numbersOf q (words16 (w .word-bytes .result .now)))) (g .range-of .ensures)
+    ∙ e) (fs .fill-standard .ensures)
 
 returns-2 : tie.Need-returns-2
 returns-2 c = let fs = c .before .before in
@@ -29,13 +31,20 @@ returns-2 c = let fs = c .before .before in
     let f = w .before in
     let h = f .before .before .before in
     let a = h .before .before .before .args in
-    listed-as (numbers-crate (a .r) (a .a) (a .v .now) (sym (h .check .ensures) ∙ f .before .enum-told .given .1) (f .fields-at .result) (w .word-bytes .result .now) (f .fields-at .ensures) (w .word-bytes .ensures) (t .enum-told3 .given .1) (omega (arith, h .before .before .shared-slice-known .given 2, h .before .before .shared-slice-known .given 3))) (fs .fill-crate .ensures)
+    listed-as (numbers-crate (a .r) (a .a) (a .v .now) (sym (h .check .ensures) ∙ f .before .enum-told .given .1)
+    (f .fields-at .result) (w .word-bytes .result .now) (f .fields-at .ensures) (w .word-bytes .ensures)
+    (t .enum-told3 .given .1) (omega (
+      arith,
+      h .before .before .shared-slice-known .given 2,
+      h .before .before .shared-slice-known .given 3,
+    ))) (fs .fill-crate .ensures)
 
 returns-3 : tie.Need-returns-3
 returns-3 c = let x = c .before in
     let h = x .before .before in
     let a = h .before .before .before .args in
-    turned-away _ (a .out .now) (x .x .given .0 .0) (numbers-unfit (a .r) (a .a) (a .v .now) (x .x .given .0 .0) (sym (h .check .ensures) ∙ x .x .given .1))
+    turned-away _ (a .out .now) (x .x .given .0 .0) (numbers-unfit (a .r) (a .a) (a .v .now) (x .x .given .0 .0)
+    (sym (h .check .ensures) ∙ x .x .given .1))
 
 pub numbers-spec : {M : Type 1} → statement M
 numbers-spec =

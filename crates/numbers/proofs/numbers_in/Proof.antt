@@ -17,7 +17,8 @@ returns c = let e = c .before .before in
     let a = l .before .before .before .args in
     listed-as
     (ap (λ (v : List ℕ). numbersShown (a .r) (a .a) v) (q .part .ensures .0)
-    ∙ numbers-asked (a .r) (a .s .now) (a .k) (a .a) (p .at .given .0 .0) (p .at .given .0 .1 .0) (sym (l .locate .ensures) ∙ p .at .given .1))
+    ∙ numbers-asked (a .r) (a .s .now) (a .k) (a .a) (p .at .given .0 .0) (p .at .given .0 .1 .0)
+    (sym (l .locate .ensures) ∙ p .at .given .1))
     (e .numbers .ensures)
 
 returns-2 : tie.Need-returns-2

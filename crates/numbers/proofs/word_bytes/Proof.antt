@@ -18,7 +18,8 @@ returns-2 c = let b = c .before in
     let e = h .before in
     let a = e .before .before .before .args in
     c .part2 .ensures .0
-    ∙ bytes-crate (a .r) (a .v .now) (b .above .result) (l .block-length .result) (e .enum-told2 .given .1) (b .above .ensures)
+    ∙ bytes-crate (a .r) (a .v .now) (b .above .result) (l .block-length .result) (e .enum-told2 .given .1)
+    (b .above .ensures)
     (length-taken (a .v .now) _ (h .header-data .ensures) _ (l .block-length .ensures .0))
 
 pub word-bytes-spec : {M : Type 1} → statement M

@@ -1,4 +1,5 @@
--- `packet_receipt_time::listable_of` meets its contract: how many positions a reading lists from the first on, whatever times there are.
+-- `packet_receipt_time::listable_of` meets its contract: how many positions a reading lists from the first on,
+-- whatever times there are.
 use Rattle.packet_receipt_time.proofs.PairsAnswers.{listable-standard, listable-crate}
 use Rattle.range.specs.Inside.{insideCount}
 use mathlib.Core.Path.{ap, _∙_}
@@ -10,7 +11,8 @@ returns : tie.Need-returns
 returns c = let g = c .before in
     let t = g .before in
     let a = t .before .before .args in
-    c .inside-count .ensures ∙ ap insideCount (g .range-of .ensures) ∙ listable-standard (a .r) (a .f) (t .enum-told .given .1)
+    c .inside-count .ensures ∙ ap insideCount (g .range-of .ensures)
+    ∙ listable-standard (a .r) (a .f) (t .enum-told .given .1)
 
 returns-2 : tie.Need-returns-2
 returns-2 c = let t = c .before in

@@ -14,7 +14,8 @@ use Rattle.range.specs.Steps.{stepOf}
 use Rattle.range.specs.Failing.{never}
 use Rattle.packet_receipt_time.specs.Pairs.{listable, stepped}
 use Rattle.packet_receipt_time.proofs.PairsLaws.{length-stepped}
-use Rattle.packet_receipt_time.proofs.PairsAnswers.{pairs-fine, pairs-unfit, pairs-listed, pairs-full, pairs-refused, count-found, first-found, step-found}
+use Rattle.packet_receipt_time.proofs.PairsAnswers.{pairs-fine, pairs-unfit, pairs-listed, pairs-full}
+use Rattle.packet_receipt_time.proofs.PairsAnswers.{pairs-refused, count-found, first-found, step-found}
 use borrow.Author.Needs.{needs}
 use Rattle.packet_receipt_time.proofs.pairs.Statement.{statement}
 use Rattle.packet_receipt_time.proofs.pairs.Tie as tie
@@ -28,28 +29,40 @@ times-of c = words32 (drop 12 (v-of c))
 -- the count that was found
 counted : (c : tie.After-lesser) → let f = c .before .before .before in
     let h = f .before .before .before in
-    c .lesser .result ≡ min (listable (h .before .before .before .before .args .r) (fieldsAt (v-of c))) (length (times-of c))
+    c .lesser .result ≡ min (listable (h .before .before .before .before .args .r) (fieldsAt (v-of c)))
+    (length (times-of c))
 counted c =
     let k = c .before in
     let l = k .before in
     let f = l .before in
     let a = f .before .before .before .before .before .before .before .args in
-    count-found (a .r) (f .fields-at .result) (a .v .now) (f .fields-at .ensures) (c .lesser .result) (l .listable-of .result) (k .times-count .result) (c .lesser .ensures) (l .listable-of .ensures) (k .times-count .ensures)
+    count-found (a .r) (f .fields-at .result) (a .v .now) (f .fields-at .ensures) (c .lesser .result)
+    (l .listable-of .result) (k .times-count .result) (c .lesser .ensures) (l .listable-of .ensures)
+    (k .times-count .ensures)
 
 -- what is shown, by a first number and a step
-asked : (c : tie.After-lesser) (first step : ℕ) → first ≡ numberOf (rangeOf (fieldsAt (v-of c))) 0 → step ≡ stepOf (fieldsAt (v-of c) .thinning)
+asked : (c : tie.After-lesser) (first step : ℕ) → first ≡ numberOf (rangeOf (fieldsAt (v-of c))) 0
+    → step ≡ stepOf (fieldsAt (v-of c) .thinning)
     → let h = c .before .before .before .before .before .before in
-    pairsShown (h .before .before .before .before .args .r) (v-of c) ≡ shown (stepped step first (c .lesser .result) (times-of c))
+    pairsShown (h .before .before .before .before .args .r) (v-of c) ≡ shown
+    (stepped step first (c .lesser .result) (times-of c))
 asked c first step p q =
     let f = c .before .before .before in
     let t = f .before in
     let h = t .before .before in
     let b = h .before .before .before .before in
     let bytes : Bytes (v-of c) = λ i. h .before .before .before .shared-slice-known .given i .fits in
-    let few : length (times-of c) ≤ never = omega (arith, length-words32 (drop 12 (v-of c)), length-drop 12 (v-of c), b .good) in
-    pairs-fine (b .args .r) (v-of c) (sym (h .check .ensures) ∙ t .enum-told .given .1) (be16-lt (v-of c) 8 bytes) (be16-lt (v-of c) 10 bytes) few first step (c .lesser .result) p q (counted c)
+    let few : length (times-of c) ≤ never = omega (
+      arith,
+      length-words32 (drop 12 (v-of c)),
+      length-drop 12 (v-of c),
+      b .good,
+    ) in
+    pairs-fine (b .args .r) (v-of c) (sym (h .check .ensures) ∙ t .enum-told .given .1) (be16-lt (v-of c) 8 bytes)
+    (be16-lt (v-of c) 10 bytes) few first step (c .lesser .result) p q (counted c)
 
-long : (c : tie.After-lesser) (first step : ℕ) → c .lesser .result ≡ length (stepped step first (c .lesser .result) (times-of c))
+long : (c : tie.After-lesser) (first step : ℕ) → c .lesser .result ≡ length
+    (stepped step first (c .lesser .result) (times-of c))
 long c first step = omega (arith, counted c, length-stepped step first (c .lesser .result) (times-of c))
 
 returns : tie.Need-returns
@@ -58,7 +71,9 @@ returns c = let m = c .before in
     let a = n .before .before .before .before .before .before .before .before .before .before .args in
     let first = numberOf (rangeOf (fieldsAt (v-of n))) 0 in
     let step = stepOf (fieldsAt (v-of n) .thinning) in
-    pairs-full _ (a .numbers .now) (a .times .now) (stepped step first (n .lesser .result) (times-of n)) (n .lesser .result) (m .lesser2 .result) (asked n first step refl refl) (long n first step) (m .lesser2 .ensures) (c .if1 .taken)
+    pairs-full _ (a .numbers .now) (a .times .now) (stepped step first (n .lesser .result) (times-of n))
+    (n .lesser .result) (m .lesser2 .result) (asked n first step refl refl) (long n first step) (m .lesser2 .ensures)
+    (c .if1 .taken)
 
 returns-2 : tie.Need-returns-2
 returns-2 c = let st = c .before .before .before .before in
@@ -70,15 +85,21 @@ returns-2 c = let st = c .before .before .before .before in
     let n = m .before in
     let f = n .before .before .before in
     let a = n .before .before .before .before .before .before .before .before .before .before .args in
-    let first = first-found (a .r) (f .fields-at .result) (a .v .now) (f .fields-at .ensures) (x .number-at .result) (g .range-of .result) (x .number-at .ensures) (g .range-of .ensures) in
-    let step = step-found (a .r) (f .fields-at .result) (a .v .now) (f .fields-at .ensures) (d .doubled .result) (d .doubled .ensures) in
-    pairs-listed _ (a .numbers .now) (a .times .now) _ (n .lesser .result) _ _ (asked n (x .number-at .result) (d .doubled .result) first step) (long n (x .number-at .result) (d .doubled .result)) (omega (arith, e .if1 .left, m .lesser2 .ensures)) (st .store .ensures)
+    let first = first-found (a .r) (f .fields-at .result) (a .v .now) (f .fields-at .ensures) (x .number-at .result)
+    (g .range-of .result) (x .number-at .ensures) (g .range-of .ensures) in
+    let step = step-found (a .r) (f .fields-at .result) (a .v .now) (f .fields-at .ensures) (d .doubled .result)
+    (d .doubled .ensures) in
+    pairs-listed _ (a .numbers .now) (a .times .now) _ (n .lesser .result) _ _
+    (asked n (x .number-at .result) (d .doubled .result) first step)
+    (long n (x .number-at .result) (d .doubled .result)) (omega (arith, e .if1 .left, m .lesser2 .ensures))
+    (st .store .ensures)
 
 returns-3 : tie.Need-returns-3
 returns-3 c = let x = c .before in
     let h = x .before .before in
     let a = h .before .before .before .before .args in
-    pairs-refused _ (a .numbers .now) (a .times .now) (x .x .given .0 .0) (pairs-unfit (a .r) (a .v .now) (x .x .given .0 .0) (sym (h .check .ensures) ∙ x .x .given .1))
+    pairs-refused _ (a .numbers .now) (a .times .now) (x .x .given .0 .0)
+    (pairs-unfit (a .r) (a .v .now) (x .x .given .0 .0) (sym (h .check .ensures) ∙ x .x .given .1))
 
 pub pairs-spec : {M : Type 1} → statement M
 pairs-spec =

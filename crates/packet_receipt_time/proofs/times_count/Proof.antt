@@ -14,7 +14,8 @@ returns c = let v = c .before .args .v .now in
 
 returns-2 : tie.Need-returns-2
 returns-2 c = let v = c .before .args .v .now in
-    (let e : (length v - 12) / 4 ≡ length (drop 12 v) / 4 = omega (arith, length-drop 12 v) in e) ∙ sym (length-words32 (drop 12 v))
+    (let e : (length v - 12) / 4 ≡ length (drop 12 v) / 4 = omega (arith, length-drop 12 v) in e)
+    ∙ sym (length-words32 (drop 12 v))
 
 pub times-count-spec : {M : Type 1} → statement M
 times-count-spec =

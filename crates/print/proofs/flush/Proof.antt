@@ -6,7 +6,8 @@ use Rattle.print.proofs.flush.Statement.{statement}
 use Rattle.print.proofs.flush.Tie as tie
 
 slice-aggregate-write-all : tie.Need-slice-aggregate-write-all
-slice-aggregate-write-all c = sym (length-take-le (c .before .before .before .args .at) (c .before .before .before .args .buf .now) (c .before .if1 .taken))
+slice-aggregate-write-all c = sym (length-take-le (c .before .before .before .args .at)
+    (c .before .before .before .args .buf .now) (c .before .if1 .taken))
 
 pub flush-spec : {M : Type 1} → statement M
 flush-spec =

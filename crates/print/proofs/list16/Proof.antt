@@ -7,7 +7,8 @@ use Rattle.print.proofs.list16.Statement.{statement}
 use Rattle.print.proofs.list16.Tie as tie
 
 abbrev Inv-loop : tie.InvT-loop
-Inv-loop buf₀ at list n stop to₀ i₀ buf to i = (i ≤ stop) × (stop ≤ length list) × (to ≤ length buf₀) × (length buf ≡ length buf₀)
+Inv-loop buf₀ at list n stop to₀ i₀ buf to i = (i ≤ stop) × (stop ≤ length list) × (to ≤ length buf₀)
+    × (length buf ≡ length buf₀)
 
 abbrev μ-loop : tie.MeasureT-loop
 μ-loop buf₀ at list n stop to₀ i₀ buf to i = stop - i

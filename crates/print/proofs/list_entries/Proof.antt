@@ -7,7 +7,8 @@ use Rattle.print.proofs.list_entries.Statement.{statement}
 use Rattle.print.proofs.list_entries.Tie as tie
 
 abbrev Inv-loop : tie.InvT-loop
-Inv-loop buf₀ at a b c n stop to₀ i₀ buf to i = (i ≤ stop) × (stop ≤ length a) × (stop ≤ length b) × (stop ≤ length c) × (to ≤ length buf₀) × (length buf ≡ length buf₀)
+Inv-loop buf₀ at a b c n stop to₀ i₀ buf to i = (i ≤ stop) × (stop ≤ length a) × (stop ≤ length b) × (stop ≤ length c)
+    × (to ≤ length buf₀) × (length buf ≡ length buf₀)
 
 abbrev μ-loop : tie.MeasureT-loop
 μ-loop buf₀ at a b c n stop to₀ i₀ buf to i = stop - i

@@ -7,7 +7,8 @@ use Rattle.print.proofs.list_pairs.Statement.{statement}
 use Rattle.print.proofs.list_pairs.Tie as tie
 
 abbrev Inv-loop : tie.InvT-loop
-Inv-loop buf₀ at numbers times n stop to₀ i₀ buf to i = (i ≤ stop) × (stop ≤ length numbers) × (stop ≤ length times) × (to ≤ length buf₀) × (length buf ≡ length buf₀)
+Inv-loop buf₀ at numbers times n stop to₀ i₀ buf to i = (i ≤ stop) × (stop ≤ length numbers) × (stop ≤ length times)
+    × (to ≤ length buf₀) × (length buf ≡ length buf₀)
 
 abbrev μ-loop : tie.MeasureT-loop
 μ-loop buf₀ at numbers times n stop to₀ i₀ buf to i = stop - i

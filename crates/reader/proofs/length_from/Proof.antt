@@ -4,6 +4,15 @@ use borrow.Author.Needs.{needs}
 use Rattle.reader.proofs.length_from.Statement.{statement}
 use Rattle.reader.proofs.length_from.Tie as tie
 
+part-requires : tie.Need-part-requires
+part-requires c κs = search needs
+
+header-data-requires : tie.Need-header-data-requires
+header-data-requires c κs = search needs
+
+block-length-requires : tie.Need-block-length-requires
+block-length-requires c κs = search needs
+
 returns : tie.Need-returns
 returns c = let h = c .before in
     let p = h .before in
@@ -15,4 +24,4 @@ returns c = let h = c .before in
 
 pub length-from-spec : {M : Type 1} → statement M
 length-from-spec =
-    tie.close (tie.spec (λ c κs. search needs) (λ c κs. search needs) (λ c κs. search needs) returns)
+    tie.close (tie.spec part-requires header-data-requires block-length-requires returns)

@@ -14,6 +14,7 @@ use Rattle.reader.proofs.next_place as next-place
 use Rattle.reader.proofs.next_place.Symbol as next-place-def
 use Rattle.reader.proofs.next_place.Met as next-place-thm
 use Rattle.reader.proofs.moved as moved
+use Rattle.reader.proofs.moved.Key.{name as key}
 use Rattle.reader.proofs.moved.Statement as stated
 use Rattle.reader.proofs.moved.Code as code
 

@@ -14,6 +14,7 @@ use Rattle.reader.proofs.moved as moved
 use Rattle.reader.proofs.moved.Symbol as moved-def
 use Rattle.reader.proofs.moved.Met as moved-thm
 use Rattle.reader.proofs.moved_from as moved-from
+use Rattle.reader.proofs.moved_from.Key.{name as key}
 use Rattle.reader.proofs.moved_from.Statement as stated
 use Rattle.reader.proofs.moved_from.Code as code
 

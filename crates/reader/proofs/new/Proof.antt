@@ -7,6 +7,7 @@ use Rattle.reader.proofs.Walk.{and-then, no-more, returns, enter, alloc
 use Rattle.reader.proofs.Walk.{free0, Typed, RefT, slice-vals, Promise, Token, Met, proved, ends, local, sets}
 use Rattle.reader.proofs.Held.{Stands, stands, Slice, mach, Has, Own, slice-tells, slice-typed, held}
 use Rattle.reader.proofs.new as new
+use Rattle.reader.proofs.new.Key.{name as key}
 use Rattle.reader.proofs.new.Statement as stated
 use Rattle.reader.proofs.new.Code as code
 

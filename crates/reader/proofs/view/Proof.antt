@@ -15,6 +15,7 @@ use Rattle.reader.proofs.view_at as view-at
 use Rattle.reader.proofs.view_at.Symbol as view-at-def
 use Rattle.reader.proofs.view_at.Met as view-at-thm
 use Rattle.reader.proofs.view as view
+use Rattle.reader.proofs.view.Key.{name as key}
 use Rattle.reader.proofs.view.Statement as stated
 use Rattle.reader.proofs.view.Code as code
 

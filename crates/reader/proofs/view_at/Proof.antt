@@ -5,6 +5,21 @@ use borrow.Author.Needs.{needs}
 use Rattle.reader.proofs.view_at.Statement.{statement}
 use Rattle.reader.proofs.view_at.Tie as tie
 
+length-from-requires : tie.Need-length-from-requires
+length-from-requires c κs = search needs
+
+enum-told : tie.Need-enum-told
+enum-told c = search needs
+
+part-requires : tie.Need-part-requires
+part-requires c κs = search needs
+
+enum-told-2 : tie.Need-enum-told-2
+enum-told-2 c = search needs
+
+part-requires-2 : tie.Need-part-requires-2
+part-requires-2 c κs = search needs
+
 returns : tie.Need-returns
 returns c = let t = c .before in
     let l = t .before .before in
@@ -21,5 +36,11 @@ returns-2 c = let t = c .before in
 pub view-at-spec : {M : Type 1} → statement M
 view-at-spec =
     tie.close
-    (tie.spec (λ c κs. search needs) (λ c. search needs) (λ c κs. search needs) (λ c. search needs)
-    (λ c κs. search needs) returns returns-2)
+    (tie.spec
+    length-from-requires
+    enum-told
+    part-requires
+    enum-told-2
+    part-requires-2
+    returns
+    returns-2)

@@ -13,6 +13,7 @@ use Rattle.reader.proofs.view as view
 use Rattle.reader.proofs.view.Symbol as view-def
 use Rattle.reader.proofs.view.Met as view-thm
 use Rattle.reader.proofs.view_from as view-from
+use Rattle.reader.proofs.view_from.Key.{name as key}
 use Rattle.reader.proofs.view_from.Statement as stated
 use Rattle.reader.proofs.view_from.Code as code
 

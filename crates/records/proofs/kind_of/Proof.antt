@@ -15,7 +15,11 @@ returns-2 : tie.Need-returns-2
 unfolding kindOf
 returns-2 c = let e = c .before in
     let t = e .before in
-    rw (sym (t .before .before .ranged-of .ensures) ∙ t .enum-told .given .1, ne-eqb _ _ (e .if1 .left), eq-eqb _ _ (c .if2 .taken))
+    rw (
+      sym (t .before .before .ranged-of .ensures) ∙ t .enum-told .given .1,
+      ne-eqb _ _ (e .if1 .left),
+      eq-eqb _ _ (c .if2 .taken),
+    )
 
 returns-3 : tie.Need-returns-3
 unfolding kindOf
@@ -25,7 +29,11 @@ returns-4 : tie.Need-returns-4
 unfolding kindOf
 returns-4 c = let e = c .before in
     let t = e .before in
-    rw (sym (t .before .before .ranged-of .ensures) ∙ t .enum-told .given .1, ne-eqb _ _ (e .if1 .left), ne-eqb _ _ (c .if2 .left))
+    rw (
+      sym (t .before .before .ranged-of .ensures) ∙ t .enum-told .given .1,
+      ne-eqb _ _ (e .if1 .left),
+      ne-eqb _ _ (c .if2 .left),
+    )
 
 pub kind-of-spec : {M : Type 1} → statement M
 kind-of-spec =

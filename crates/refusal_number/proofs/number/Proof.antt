@@ -1,4 +1,5 @@
--- `refusal_number::number` meets its contract: the row of document 01's table that a refusal is (01, "Refusal numbers").
+-- `refusal_number::number` meets its contract: the row of document 01's table that a refusal is (01, "Refusal
+-- numbers").
 use Rattle.def_refusals.specs.Numbers.{numbered}
 use mathlib.Core.Path.{sym, ap, _∙_}
 use borrow.Author.Needs.{needs}

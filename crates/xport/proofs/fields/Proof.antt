@@ -11,7 +11,8 @@ returns c = sym (ap flatFields (c .before .a .given .1))
 
 returns-2 : tie.Need-returns-2
 unfolding flatFields
-returns-2 c = ap (λ f. fieldsRow f noFields) (c .refusal .ensures) ∙ sym (ap flatFields (c .before .before .a2 .given .1))
+returns-2 c = ap (λ f. fieldsRow f noFields) (c .refusal .ensures)
+    ∙ sym (ap flatFields (c .before .before .a2 .given .1))
 
 pub fields-spec : {M : Type 1} → statement M
 fields-spec =

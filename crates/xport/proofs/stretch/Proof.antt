@@ -11,7 +11,8 @@ returns c = sym (ap flatStretch (c .before .before .a .given .1))
 
 returns-2 : tie.Need-returns-2
 unfolding flatStretch
-returns-2 c = ap (λ f. stretchRow f noStretch) (c .refusal .ensures) ∙ sym (ap flatStretch (c .before .before .a2 .given .1))
+returns-2 c = ap (λ f. stretchRow f noStretch) (c .refusal .ensures)
+    ∙ sym (ap flatStretch (c .before .before .a2 .given .1))
 
 pub stretch-spec : {M : Type 1} → statement M
 stretch-spec =

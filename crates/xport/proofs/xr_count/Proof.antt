@@ -9,7 +9,8 @@ use Rattle.xport.proofs.xr_count.Tie as tie
 returns : tie.Need-returns
 returns c = let k = c .before in
     let a = k .before .before .before .args in
-    c .answer .ensures ∙ ap flatOf (k .count .ensures ∙ ap (λ q. countOf q (a .packet .now)) (k .before .reading .ensures))
+    c .answer .ensures ∙ ap flatOf (k .count .ensures ∙ ap (λ q. countOf q (a .packet .now))
+    (k .before .reading .ensures))
 
 pub xr-count-spec : {M : Type 1} → statement M
 xr-count-spec =

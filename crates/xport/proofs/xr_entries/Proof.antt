@@ -10,7 +10,8 @@ returns : tie.Need-returns
 returns c = let n = c .before .before .before .before .before .before .before in
     let q = n .before .before .before .before in
     let a = q .before .before .before .before .before .args in
-    flat-entries (ap (λ r. entriesAsked r (a .packet .now) (a .k)) (q .reading .ensures)) (n .entries-in .ensures) (c .answer .ensures)
+    flat-entries (ap (λ r. entriesAsked r (a .packet .now) (a .k)) (q .reading .ensures)) (n .entries-in .ensures)
+    (c .answer .ensures)
 
 pub xr-entries-spec : {M : Type 1} → statement M
 xr-entries-spec =

@@ -9,7 +9,8 @@ use Rattle.xport.proofs.xr_fields.Tie as tie
 returns : tie.Need-returns
 returns c = let k = c .before in
     let a = k .before .before .before .args in
-    c .fields2 .ensures ∙ ap flatFields (k .fields .ensures ∙ ap (λ q. fieldsBy q (a .packet .now) (a .k) (a .t)) (k .before .reading .ensures))
+    c .fields2 .ensures ∙ ap flatFields (k .fields .ensures
+    ∙ ap (λ q. fieldsBy q (a .packet .now) (a .k) (a .t)) (k .before .reading .ensures))
 
 pub xr-fields-spec : {M : Type 1} → statement M
 xr-fields-spec =

@@ -9,7 +9,8 @@ use Rattle.xport.proofs.xr_locate.Tie as tie
 returns : tie.Need-returns
 returns c = let k = c .before in
     let a = k .before .before .before .args in
-    c .located .ensures ∙ ap flatLocated (k .locate .ensures ∙ ap (λ q. locate q (a .packet .now) (a .k)) (k .before .reading .ensures))
+    c .located .ensures ∙ ap flatLocated (k .locate .ensures
+    ∙ ap (λ q. locate q (a .packet .now) (a .k)) (k .before .reading .ensures))
 
 pub xr-locate-spec : {M : Type 1} → statement M
 xr-locate-spec =

@@ -12,7 +12,8 @@ returns : tie.Need-returns
 returns c = let n = c .before .before .before in
     let q = n .before .before .before .before .before in
     let a = q .before .before .before .args in
-    flat-listed (ap (λ r. numbersBy r (a .packet .now) (a .k) (a .t)) (q .reading .ensures)) (n .numbers .ensures) (c .answer .ensures)
+    flat-listed (ap (λ r. numbersBy r (a .packet .now) (a .k) (a .t)) (q .reading .ensures)) (n .numbers .ensures)
+    (c .answer .ensures)
 
 returns-2 : tie.Need-returns-2
 returns-2 c = let p = c .before .before in

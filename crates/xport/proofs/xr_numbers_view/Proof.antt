@@ -10,7 +10,8 @@ returns : tie.Need-returns
 returns c = let n = c .before .before .before in
     let q = n .before .before in
     let a = q .before .before .before .args in
-    flat-listed (ap (λ r. numbersViewBy r (a .t) (a .view .now)) (q .reading .ensures)) (n .numbers-view .ensures) (c .answer .ensures)
+    flat-listed (ap (λ r. numbersViewBy r (a .t) (a .view .now)) (q .reading .ensures)) (n .numbers-view .ensures)
+    (c .answer .ensures)
 
 pub xr-numbers-view-spec : {M : Type 1} → statement M
 xr-numbers-view-spec =

@@ -10,7 +10,8 @@ returns : tie.Need-returns
 returns c = let n = c .before .before .before .before .before in
     let q = n .before .before .before in
     let a = q .before .before .before .before .args in
-    flat-pairs (ap (λ r. pairsAsked r (a .packet .now) (a .k)) (q .reading .ensures)) (n .pairs-in .ensures) (c .answer .ensures)
+    flat-pairs (ap (λ r. pairsAsked r (a .packet .now) (a .k)) (q .reading .ensures)) (n .pairs-in .ensures)
+    (c .answer .ensures)
 
 pub xr-pairs-spec : {M : Type 1} → statement M
 xr-pairs-spec =

@@ -9,7 +9,8 @@ use Rattle.xport.proofs.xr_time.Tie as tie
 returns : tie.Need-returns
 returns c = let k = c .before in
     let a = k .before .before .before .args in
-    c .time .ensures ∙ ap flatTime (k .time-in .ensures ∙ ap (λ q. timeAsked q (a .packet .now) (a .k)) (k .before .reading .ensures))
+    c .time .ensures ∙ ap flatTime (k .time-in .ensures
+    ∙ ap (λ q. timeAsked q (a .packet .now) (a .k)) (k .before .reading .ensures))
 
 pub xr-time-spec : {M : Type 1} → statement M
 xr-time-spec =

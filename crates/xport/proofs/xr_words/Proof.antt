@@ -10,7 +10,8 @@ returns : tie.Need-returns
 returns c = let n = c .before .before .before in
     let q = n .before .before in
     let a = q .before .before .before .args in
-    flat-listed (ap (λ r. wordsBy r (a .packet .now) (a .k) (a .t)) (q .reading .ensures)) (n .words .ensures) (c .answer .ensures)
+    flat-listed (ap (λ r. wordsBy r (a .packet .now) (a .k) (a .t)) (q .reading .ensures)) (n .words .ensures)
+    (c .answer .ensures)
 
 pub xr-words-spec : {M : Type 1} → statement M
 xr-words-spec =

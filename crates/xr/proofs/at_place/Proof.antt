@@ -7,10 +7,12 @@ use Rattle.xr.proofs.at_place.Tie as tie
 returns : tie.Need-returns
 returns c = let t = c .before in
     let a = t .before .before .before .args in
-    size-standard (a .r) (a .s .now) (a .place) (c .length-at .result) (t .enum-told .given .1) (c .length-at .ensures .0)
+    size-standard (a .r) (a .s .now) (a .place) (c .length-at .result) (t .enum-told .given .1)
+    (c .length-at .ensures .0)
 
 returns-2 : tie.Need-returns-2
-returns-2 c = let a = c .before .before .before .args in size-crate (a .r) (a .s .now) (a .place) (c .enum-told2 .given .1)
+returns-2 c = let a = c .before .before .before .args in
+    size-crate (a .r) (a .s .now) (a .place) (c .enum-told2 .given .1)
 
 pub at-place-spec : {M : Type 1} → statement M
 at-place-spec =

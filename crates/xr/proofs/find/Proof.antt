@@ -27,21 +27,24 @@ returns c = let t = c .before in
     c .at-place .ensures
     ∙ ap (λ (p : ℕ). At p (sizeAt (a .r) (a .s .now) p))
     (w .walk .ensures .placed (n .n .given .0 .0) (n .n .given .1) (t .if1 .taken))
-    ∙ found-done (a .r) (a .s .now) (a .stop) (a .k) (n .n .given .0 .0) (sym (w .walk .ensures .counted) ∙ n .n .given .1)
+    ∙ found-done (a .r) (a .s .now) (a .stop) (a .k) (n .n .given .0 .0)
+    (sym (w .walk .ensures .counted) ∙ n .n .given .1)
     (t .if1 .taken)
 
 returns-2 : tie.Need-returns-2
 returns-2 c = let n = c .before .before in
     let w = n .before .before in
     let a = w .before .before .args in
-    found-none (a .r) (a .s .now) (a .stop) (a .k) (n .n .given .0 .0) (sym (w .walk .ensures .counted) ∙ n .n .given .1)
+    found-none (a .r) (a .s .now) (a .stop) (a .k) (n .n .given .0 .0)
+    (sym (w .walk .ensures .counted) ∙ n .n .given .1)
     (c .if1 .left)
 
 returns-3 : tie.Need-returns-3
 returns-3 c = let n = c .before in
     let w = n .before .before in
     let a = w .before .before .args in
-    found-cut (a .r) (a .s .now) (a .stop) (a .k) (n .n2 .given .0 .0) (sym (w .walk .ensures .counted) ∙ n .n2 .given .1)
+    found-cut (a .r) (a .s .now) (a .stop) (a .k) (n .n2 .given .0 .0)
+    (sym (w .walk .ensures .counted) ∙ n .n2 .given .1)
 
 pub find-spec : {M : Type 1} → statement M
 find-spec =

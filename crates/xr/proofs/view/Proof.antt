@@ -13,7 +13,8 @@ returns c = let a = c .before .before in
     let e = sym (l .locate .ensures) ∙ a .at .given .1 in
     let w = located-within (i .r) (i .s .now) (i .k) (a .at .given .0 .0) (a .at .given .0 .1 .0) e in (
       c .part .ensures .0 ∙ view-bytes (i .s .now) (a .at .given .0 .0) (a .at .given .0 .1 .0) _ e,
-      c .part .ensures .1 ∙ view-start (i .s .ptr) (i .s .now) (a .at .given .0 .0) (a .at .given .0 .1 .0) _ e (omega (arith, w .end)),
+      c .part .ensures .1 ∙ view-start (i .s .ptr) (i .s .now) (a .at .given .0 .0) (a .at .given .0 .1 .0) _ e
+          (omega (arith, w .end)),
     )
 
 returns-2 : tie.Need-returns-2

@@ -14,13 +14,15 @@ returns : tie.Need-returns
 returns c = let p = c .before .before in
     let r = p .before .before in
     let a = r .before .before .args in
-    walked (a .s .now) (a .stop) (a .k) (r .reach .result .place) (p .passed .given .0 .0) (c .walk-on .result) (r .reach .result .count) (r .reach .ensures) (p .passed .given .1) (c .walk-on .ensures)
+    walked (a .s .now) (a .stop) (a .k) (r .reach .result .place) (p .passed .given .0 .0) (c .walk-on .result)
+    (r .reach .result .count) (r .reach .ensures) (p .passed .given .1) (c .walk-on .ensures)
 
 returns-2 : tie.Need-returns-2
 returns-2 c = let p = c .before in
     let r = p .before .before in
     let a = r .before .before .args in
-    walked-cut (a .s .now) (a .stop) (a .k) (r .reach .result .place) (p .passed2 .given .0 .0) (r .reach .result .count) (r .reach .ensures) (p .passed2 .given .1)
+    walked-cut (a .s .now) (a .stop) (a .k) (r .reach .result .place) (p .passed2 .given .0 .0)
+    (r .reach .result .count) (r .reach .ensures) (p .passed2 .given .1)
 
 pub walk-spec : {M : Type 1} → statement M
 walk-spec =

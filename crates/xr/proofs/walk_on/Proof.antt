@@ -16,7 +16,8 @@ abbrev μ-loop : tie.MeasureT-loop
 μ-loop s stop from passed at₀ left₀ n₀ at left n = left
 
 -- a block is left
-more : (m : tie.After-length-at Inv-loop μ-loop) → let l = m .before .before in l .loop .at < l .before .before .args .stop
+more : (m : tie.After-length-at Inv-loop μ-loop) → let l = m .before .before in
+    l .loop .at < l .before .before .args .stop
 more m = let l = m .before .before in omega (arith, l .loop .inv .1, m .before .loop-test .taken)
 
 sub-left : tie.Need-sub-left Inv-loop μ-loop
@@ -26,7 +27,14 @@ loop-holds : tie.Need-loop-holds Inv-loop μ-loop
 loop-holds c = let s = c .before in (s .pre .2, omega (arith, s .pre .2 .before))
 
 length-at-requires : tie.Need-length-at-requires Inv-loop μ-loop
-length-at-requires c κs = let l = c .before in omega (arith, l .loop .inv .0 .word, l .loop .inv .1, l .before .before .pre .0, l .before .before .pre .1, c .loop-test .taken)
+length-at-requires c κs = let l = c .before in omega (
+  arith,
+  l .loop .inv .0 .word,
+  l .loop .inv .1,
+  l .before .before .pre .0,
+  l .before .before .pre .1,
+  c .loop-test .taken,
+)
 
 returns : tie.Need-returns Inv-loop μ-loop
 returns c = let m = c .before in
@@ -34,8 +42,10 @@ returns c = let m = c .before in
     let s = l .before .before in
     let a = s .args in
     let e : l .loop .left ≡ a .stop - l .loop .at = omega (arith, l .loop .inv .1) in
-    let h : a .stop - l .loop .at < lengthAt (a .s .now) (l .loop .at) = omega (arith, e, m .length-at .ensures .0, c .if1 .taken) in
-    rw (m .length-at .ensures .0, e) (cut (a .s .now) (a .stop) (s .pre .0) (l .loop .at) (l .loop .n) (l .loop .inv .0) (more m) h)
+    let h : a .stop - l .loop .at < lengthAt (a .s .now) (l .loop .at) = omega
+    (arith, e, m .length-at .ensures .0, c .if1 .taken) in
+    rw (m .length-at .ensures .0, e) (cut (a .s .now) (a .stop) (s .pre .0) (l .loop .at) (l .loop .n)
+    (l .loop .inv .0) (more m) h)
 
 loop-less : tie.Need-loop-less Inv-loop μ-loop
 loop-less c = let m = c .before in omega (arith, m .length-at .ensures .0, c .if1 .left)
@@ -45,14 +55,18 @@ loop-again c = let m = c .before in
     let l = m .before .before in
     let s = l .before .before in
     let a = s .args in
-    let h : lengthAt (a .s .now) (l .loop .at) ≤ a .stop - l .loop .at = omega (arith, l .loop .inv .1, m .length-at .ensures .0, c .if1 .left) in
-    rw (m .length-at .ensures .0)
-    (turned (a .s .now) (a .stop) (s .pre .0) (l .loop .at) (l .loop .n) (l .loop .inv .0) (more m) h, omega (arith, l .loop .inv .1, h))
+    let h : lengthAt (a .s .now) (l .loop .at) ≤ a .stop - l .loop .at = omega
+    (arith, l .loop .inv .1, m .length-at .ensures .0, c .if1 .left) in
+    rw (m .length-at .ensures .0) (
+      turned (a .s .now) (a .stop) (s .pre .0) (l .loop .at) (l .loop .n) (l .loop .inv .0) (more m) h,
+      omega (arith, l .loop .inv .1, h),
+    )
 
 returns-2 : tie.Need-returns-2 Inv-loop μ-loop
 returns-2 c = let l = c .before in
     let a = l .before .before .args in
-    ended (a .s .now) (a .stop) (l .loop .at) (l .loop .n) (l .loop .inv .0) (omega (arith, l .loop .inv .1, c .loop-test .left))
+    ended (a .s .now) (a .stop) (l .loop .at) (l .loop .n) (l .loop .inv .0)
+    (omega (arith, l .loop .inv .1, c .loop-test .left))
 
 pub walk-on-spec : {M : Type 1} → statement M
 walk-on-spec =
