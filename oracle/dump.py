@@ -1,4 +1,4 @@
-"""What xrdump prints, as document 01 has it."""
+"""What xrdump prints, as RULES has it."""
 from itertools import islice
 
 from lists import entries_of, numbers_of, pairs_of

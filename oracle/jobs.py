@@ -1,10 +1,10 @@
-"""Job lists and writing, as document 01 has them.
+"""Job lists and writing, as RULES has them.
 
 record   ("header", ssrc, padding), or (kind, Range, words or times), (4, time), (5, entries)
 asked    what a record asks to be shown: the standard reading of its own words
 shown    what a reading shows of a block: fields, numbers, times, entries; not the chunk words
 
-Checks stand in document 01's order: 12, 14, 15, 11.
+Checks stand in RULES' order: 12, 14, 15, 11.
 """
 from itertools import islice
 

@@ -1,4 +1,4 @@
-"""Chunk words, the lists of both readings, and the number cursor, as document 01 has them.
+"""Chunk words, the lists of both readings, and the number cursor, as RULES has them.
 
 word     16 bits; covers(word) positions, whose values are values(word), in order
 p        a position, counted from 0 through the words; q a place in one word
@@ -59,7 +59,7 @@ def standard_numbers(r, words):
 
 
 def offset_sequence(q, start, r):
-    """Document 01's `xr_offset_sequence`: the number, or None where it fails."""
+    """RULES' `xr_offset_sequence`: the number, or None where it fails."""
     s = ((q << r.thinning) + start) % NUMBERS
     fails = r.end <= s < start if r.end <= start else s >= r.end
     return None if fails else s
@@ -101,7 +101,7 @@ def crate_count(r, words):
 
 
 def first_failure(start, r):
-    """The first place of a run of ones that fails, or None: OPEN-POINTS' closed form."""
+    """The first place of a run of ones that fails, or None: a closed form, found by running."""
     size = (r.end - start) % NUMBERS or NUMBERS
     q = -(-size >> r.thinning)
     last = start + (q << r.thinning) if start < r.end else q << r.thinning

@@ -1,4 +1,4 @@
-"""Checks of the model: document 01's twelve examples and the facts of the open points, with bytes.
+"""Checks of the model: the twelve examples of RULES and the facts of the open points, with bytes.
 
 Every check is `expect(name, found, wanted)`; one that differs is told and makes the run fail.
 """

@@ -1,4 +1,4 @@
-"""Both readings of a packet, written to document 01 and the decided open points.
+"""Both readings of a packet, written to RULES and the decided open points.
 
 packet   bytes; a reading is STANDARD or CRATE
 block    a Block: where it starts, its length L, and what is left to the packet's end
@@ -6,7 +6,7 @@ range    a Range: SSRC, begin, end, thinning T
 
 This file has the packet, the walk, and a block's view, fields and time; lists.py has the rest.
 A function marked @question gives its answer, or ("refused", number, value, value). Its checks stand
-in document 01's order: 1-6, 9, 10, 7, 8, 16, 11.
+in RULES' order: 1-6, 9, 10, 7, 8, 16, 11.
 """
 from collections import namedtuple
 from functools import wraps
@@ -19,7 +19,7 @@ Range = namedtuple("Range", "ssrc begin end thinning")
 
 
 class Refusal(Exception):
-    """Carries document 01's number and two values."""
+    """Carries RULES' number and two values."""
 
 
 def refuse(when, number, first=0, second=0):

@@ -4,7 +4,7 @@
 pub const STANDARD: u8 = 0;
 pub const CRATE: u8 = 1;
 
-/// Code 0 and what was found, or document 01's number of the refusal and its two values.
+/// Code 0 and what was found, or RULES' number of the refusal and its two values.
 #[repr(C)]
 #[derive(Clone, Copy, Debug, PartialEq, Eq)]
 pub struct Flat {

@@ -1,5 +1,5 @@
 // One chunk word, taken apart and built by shifts and masks: kind bit, run bit, 14-bit length, place in the vector, most significant first
-// (RFC 3611, 4.1.1 to 4.1.3; document 01, "Packet and blocks"). Port of: rle.rs RleChunk.
+// (RFC 3611, 4.1.1 to 4.1.3; RULES, "Packet and blocks"). Port of: rle.rs RleChunk.
 ghost use mathlib.Core.Path.{_≡_};
 ghost use Prim.Native.Nat.{_+_, _-_, _/_, _%_, _^_, _≤_};
 ghost use lib.ListN.{length};
@@ -111,7 +111,7 @@ fn vector_word(v: u16) -> u16
     0x8000 | v
 }
 
-// The word of a kind, or 13 (document 01, "Refusal numbers"). Port of: rle.rs RleChunk::write_into; differs: refuses where the Rust masks.
+// The word of a kind, or 13 (RULES, "Refusal numbers"). Port of: rle.rs RleChunk::write_into; differs: refuses where the Rust masks.
 pub fn word_of(c: Chunk) -> MadeWord
     ensures { λ r. ⌜ r ≡ wordOf c ⌝ }
 {
@@ -141,7 +141,7 @@ pub fn word_of(c: Chunk) -> MadeWord
     }
 }
 
-// Makes one chunk word in the bytes lent, 13 before 11 (document 01, "Refusal numbers"). Port of: rle.rs RleChunk::write_into; differs: 13 where
+// Makes one chunk word in the bytes lent, 13 before 11 (RULES, "Refusal numbers"). Port of: rle.rs RleChunk::write_into; differs: 13 where
 // the Rust masks, 11 where it panics.
 pub fn write_chunk(c: Chunk, out: &mut [u8]) -> Answer
     ensures { λ r. ⌜ Listed (wordBytes c) (now (out .entry)) r (now (out .exit)) ⌝ }

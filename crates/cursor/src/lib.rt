@@ -1,4 +1,4 @@
-// The standard number cursor (document 01, "Views, cursors and the dump"): a call takes a budget of steps from a place of a block's words, lists
+// The standard number cursor (RULES, "Views, cursors and the dump"): a call takes a budget of steps from a place of a block's words, lists
 // that stretch's numbers, and reports how many steps it took and where the next call goes on.
 ghost use mathlib.Core.Path.{_≡_};
 ghost use mathlib.Core.Bool.{true};
@@ -141,7 +141,7 @@ fn advance_words(bytes: &[u8], g: Range, c: Cursor, budget: usize, out: &mut [u1
 }
 
 // Takes at most budget steps in a block, asked as type 1 or 2: 10, 7, 16, 11. It lists the stretch's numbers and gives the next cursor and the steps
-// taken. A call costs what the words that it reads and the numbers that it stores cost, whatever the budget (document 01, "Views, cursors and the
+// taken. A call costs what the words that it reads and the numbers that it stores cost, whatever the budget (RULES, "Views, cursors and the
 // dump"; RFC 3611, 4.1). Port of: rle.rs RleSequenceIter; differs: a budget and a cursor in place of an iterator, and the standard reading.
 pub fn advance(a: Rle, v: &[u8], c: Cursor, budget: usize, out: &mut [u16]) -> Advanced
     ensures { λ r. ⌜ Stretched a (now (v .entry)) c budget (now (out .entry)) r (now (out .exit)) ⌝ }

@@ -1,4 +1,4 @@
--- The crate reading's lists, each of everything left from the block on, v (document 01, "Crate reading").
+-- The crate reading's lists, each of everything left from the block on, v (RULES, "Crate reading").
 --     triesFrom     the numbers that are tried, in order, each with the start that it is tested from
 --     whileFrom     those before the first that fails
 use Prim.Native.Nat.{ℕ, suc, _-_}

@@ -1,4 +1,4 @@
--- The crate reading (document 01, "Crate reading"): what the xr module of rtcp-types 0.3.0 lists. Read it beside the
+-- The crate reading (RULES, "Crate reading"): what the xr module of rtcp-types 0.3.0 lists. Read it beside the
 -- Rust.
 pub mod Sequence
 pub mod Crate

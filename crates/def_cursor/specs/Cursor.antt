@@ -1,4 +1,4 @@
--- The standard number cursor: one step, the steps left, a stretch of k steps and what it lists (document 01, "Views,
+-- The standard number cursor: one step, the steps left, a stretch of k steps and what it lists (RULES, "Views,
 -- cursors and the dump").
 --     legal          a cursor that names a place of the words, or their end
 --     stepOf         the cursor after one step

@@ -1,2 +1,2 @@
--- The standard number cursor (document 01, "Views, cursors and the dump").
+-- The standard number cursor (RULES, "Views, cursors and the dump").
 pub mod Cursor

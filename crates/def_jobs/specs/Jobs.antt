@@ -1,4 +1,4 @@
--- Job lists: records of a body length (4 bytes), a kind (2) and the body, all little-endian (document 01, "Job lists
+-- Job lists: records of a body length (4 bytes), a kind (2) and the body, all little-endian (RULES, "Job lists
 -- and writing").
 --     jobsOf        the records of a list
 --     jobsFault     12, with the index of the first bad record

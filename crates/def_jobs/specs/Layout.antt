@@ -1,4 +1,4 @@
--- The packet that a job list asks for, in the plain and in the careful layout (document 01, "Job lists and writing").
+-- The packet that a job list asks for, in the plain and in the careful layout (RULES, "Job lists and writing").
 use Prim.Native.Nat.{ℕ, zero, suc, _+_, _*_, _-_, _/_, _%_}
 use mathlib.Core.Bool.{Bool, cond}
 use mathlib.Core.List.{List, [], _∷_, _++_}

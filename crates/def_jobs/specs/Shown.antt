@@ -1,5 +1,5 @@
 -- All that a block shows, and when two blocks show the same: fields, numbers, times and entries; not chunk words
--- (document 01, "Job lists and writing").
+-- (RULES, "Job lists and writing").
 use Prim.Native.Nat.{ℕ}
 use mathlib.Core.Bool.{Bool, true, false, _&&_}
 use mathlib.Core.List.{List, [], _∷_}

@@ -1,8 +1,8 @@
--- What a writer answers and leaves in the lent buffer: 12, 14, 15, 11 (document 01, "Refusal numbers" and "Job lists
+-- What a writer answers and leaves in the lent buffer: 12, 14, 15, 11 (RULES, "Refusal numbers" and "Job lists
 -- and writing").
 --     misleads      whether the crate reading shows a block otherwise than the standard
 --     packetOf      the packet of a job list, or 12, 14 and 15 in that order
--- A writer's contract is refusals' `Listed (packetOf layout list)`: 11 comes last, and bytes behind the packet stay.
+-- A writer's contract is def_refusals' `Listed (packetOf layout list)`: 11 comes last, and bytes behind the packet stay.
 use Prim.Native.Nat.{ℕ, zero, suc, _-_}
 use mathlib.Core.Bool.{Bool, true, false, cond, not}
 use mathlib.Core.List.{List}

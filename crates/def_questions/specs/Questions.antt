@@ -1,5 +1,5 @@
--- The lists of a block, of its view v in a reading: 10, then 7, then the list (document 01, "Refusal numbers"; 11 is
--- added by refusals' `Listed`).
+-- The lists of a block, of its view v in a reading: 10, then 7, then the list (RULES, "Refusal numbers"; 11 is
+-- added by def_refusals' `Listed`).
 -- Types 1 and 2 differ in the asked type alone.
 use Prim.Native.Nat.{ℕ, min}
 use mathlib.Core.Path.{_≡_}

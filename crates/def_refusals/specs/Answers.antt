@@ -1,4 +1,4 @@
--- What a call that lists into lent memory answers, and what it leaves there (01, demand 1 and refusal 11).
+-- What a call that lists into lent memory answers, and what it leaves there (RULES, "Refusal numbers").
 --     Or A                what is shown, or why it is refused
 --     answerOf            the count of what is listed, or the refusal; 11 where the room is short
 --     filledOf            what the lent list then holds

@@ -1,4 +1,4 @@
--- Read in this order: Numbers (document 01's number for each refusal), Answers (what a listing call answers and
+-- Read in this order: Numbers (RULES' number for each refusal), Answers (what a listing call answers and
 -- leaves).
 pub mod Numbers
 pub mod Answers

@@ -1,4 +1,4 @@
--- Document 01's number and two values for each refusal (01, "Refusal numbers").
+-- RULES' number and two values for each refusal (RULES, "Refusal numbers").
 use Prim.Native.Nat.{ℕ}
 use Rattle.def_refusals.specs.declared.Refusal.{Refusal}
 use Rattle.def_refusals.specs.declared.Refusal.the-variants.{TooShort, WrongVersion, WrongPacketType}

@@ -1,7 +1,7 @@
 // Why a question is refused, and the answer of a call that counts, lists or writes.
-// Definitions only: specs/Numbers.antt gives each case document 01's number and its two values.
+// Definitions only: specs/Numbers.antt gives each case RULES' number and its two values.
 
-// One case for each row of document 01's table, in the table's order.
+// One case for each row of RULES' table, in the table's order.
 pub enum Refusal {
     // 1: least, actual
     TooShort(usize, usize),
@@ -37,7 +37,7 @@ pub enum Refusal {
     Misleads(usize),
 }
 
-// Document 01's number and two values.
+// RULES' number and two values.
 pub struct Numbered {
     pub number: u8,
     pub first: usize,

@@ -1,9 +1,9 @@
--- One chunk word (RFC 3611, 4.1.1 to 4.1.3; document 01, "Packet and blocks").
+-- One chunk word (RFC 3611, 4.1.1 to 4.1.3; RULES, "Packet and blocks").
 --     coversOf      how many positions a word covers
 --     valueOf       its value at a place
 --     chunkOf       its kind
 --     wordOf        the word of a kind, with the faults of a word, 13
---     wordBytes     its two bytes, or 13; making one chunk word is refusals' `Listed (wordBytes c)`, so 11 comes
+--     wordBytes     its two bytes, or 13; making one chunk word is def_refusals' `Listed (wordBytes c)`, so 11 comes
 --                   after 13
 use Prim.Native.Nat.{ℕ, zero, suc, _+_, _-_, _/_, _%_, _^_}
 use mathlib.Core.Bool.{cond}

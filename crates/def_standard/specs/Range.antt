@@ -1,4 +1,4 @@
--- The range of sequence numbers that a block reports on, and its grid (RFC 3611, 4.1; document 01, "Standard reading").
+-- The range of sequence numbers that a block reports on, and its grid (RFC 3611, 4.1; RULES, "Standard reading").
 --     rangeOf      the range of a block's fields
 --     inside       whether a position is inside
 --     numberOf     a position's sequence number

@@ -1,4 +1,4 @@
--- The standard reading's lists, each of the block's own L bytes v (RFC 3611, 4.1 to 4.5; document 01, "Standard
+-- The standard reading's lists, each of the block's own L bytes v (RFC 3611, 4.1 to 4.5; RULES, "Standard
 -- reading").
 use Prim.Native.Nat.{ℕ}
 use mathlib.Core.Bool.{Bool, _&&_}

@@ -1,4 +1,4 @@
--- One block, as a function of its view v (RFC 3611, 3 and 4; document 01, "Packet and blocks" and refusals 10, 7 and
+-- One block, as a function of its view v (RFC 3611, 3 and 4; RULES, "Packet and blocks" and refusals 10, 7 and
 -- 8).
 -- The standard's view has L bytes, so L is its length there; the crate's has everything left, and L comes from the
 -- length field.

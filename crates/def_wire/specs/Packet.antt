@@ -1,4 +1,4 @@
--- The packet: header, sender SSRC, blocks (RFC 3611, 2; document 01, "Packet and blocks" and refusals 1 to 6 and 9).
+-- The packet: header, sender SSRC, blocks (RFC 3611, 2; RULES, "Packet and blocks" and refusals 1 to 6 and 9).
 --     headerOf      where the blocks end, or refusals 1 to 5 in their order
 --     placeOf       where block k begins
 --     countOf       how many blocks there are, or refusals 1 to 6

@@ -3,7 +3,7 @@ use def_refusals::Refusal;
 
 // Which of the two readings is asked.
 pub enum Reading {
-    // RFC 3611, as document 01 states it
+    // RFC 3611, as RULES states it
     Standard,
     // the xr module of the Rust crate rtcp-types 0.3.0
     Crate,

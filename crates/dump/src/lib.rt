@@ -1,4 +1,4 @@
-// Both readings of a packet as text (document 01, "Views, cursors and the dump"; OPEN-POINTS, "xrdump's lines").
+// Both readings of a packet as text (RULES, "Views, cursors and the dump").
 // The text goes through a lent buffer to standard output, as print's functions do. These functions promise only that their answer is within the
 // buffer (docs/PROMISES.md, "Exceptions"). A list is filled where it is shown: into few items, and where these are too few, into as many as are
 // shown of one list at most, so that a short list does not cost what a long one does.

@@ -1,4 +1,4 @@
-// The reader that the dump walks with: it holds the packet it was given, and its place (document 01, "Views, cursors
+// The reader that the dump walks with: it holds the packet it was given, and its place (RULES, "Views, cursors
 // and the dump"). The work is in functions over a slice and a place, which take any place; the functions over `Reader`
 // are thin and call one of them each. Port of: xr/mod.rs XrBlockIter, XrBlock; differs: a place past the packet's end
 // has an answer too, and the walk's checks are xr::count's.

@@ -1,4 +1,4 @@
-// Document 01's number and two values of a refusal, for programs that write them out and for callers in other languages.
+// RULES' number and two values of a refusal, for programs that write them out and for callers in other languages.
 ghost use mathlib.Core.Path.{_≡_};
 ghost use Rattle.def_refusals.specs.Numbers.{numbered};
 use def_refusals::Numbered;
@@ -15,7 +15,7 @@ fn row(number: u8, first: usize, second: usize) -> Numbered
     }
 }
 
-// The row of document 01's table that a refusal is (01, "Refusal numbers").
+// The row of RULES' table that a refusal is (RULES, "Refusal numbers").
 pub fn number(x: Refusal) -> Numbered
     ensures { λ r. ⌜ r ≡ numbered x ⌝ }
 {

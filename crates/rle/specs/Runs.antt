@@ -1,4 +1,4 @@
--- The crate's list on its way over the words (document 01, "Crate reading").
+-- The crate's list on its way over the words (RULES, "Crate reading").
 --     here    what is still to be listed from an index of the bytes on, with the start moved so far
 --     Ran     words were passed, and their numbers stored
 use Prim.Native.Nat.{ℕ, _≤_, _<_}

@@ -20,7 +20,7 @@ use def_standard::Range;
 // The crate reading's functions read no more bytes than the longest packet has.
 const LONGEST: usize = 262144;
 
-// How many numbers the words list. One pass over the words, by arithmetic, up to the range's end (RFC 3611, 4.1; document 01, "Standard
+// How many numbers the words list. One pass over the words, by arithmetic, up to the range's end (RFC 3611, 4.1; RULES, "Standard
 // reading"). Port of: rle.rs Rle::sequence_iter and its count; differs: the standard reading, and no walk over positions.
 pub fn count_standard(bytes: &[u8], g: Range) -> usize
     ensures { λ r. ⌜ r ≡ length (numbersOf g (words16 (now (bytes .entry)))) ⌝ }

@@ -1,4 +1,4 @@
--- The laws of wire's big-endian numbers and words: the one place that unfolds `pairUp`. Assumes nothing.
+-- The laws of def_wire's big-endian numbers and words: the one place that unfolds `pairUp`. Assumes nothing.
 --     Bytes, be16-lt          bytes below 256 make a number below its limit
 --     be16-past, ..           past the end it is 0
 --     Same, be16-same, ..     the same bytes elsewhere (in a part, behind a front) are the same number

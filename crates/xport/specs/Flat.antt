@@ -1,7 +1,7 @@
 -- The library's answers as numbers, for callers in other languages. Each is a flat copy of an answer that a
 -- definition below gives.
 --     readingOf      which reading a number asks for
---     flatOf ..      an answer as a code and two values: code 0 and what was found, or document 01's number of the
+--     flatOf ..      an answer as a code and two values: code 0 and what was found, or RULES' number of the
 --                    refusal and its two values
 --     FlatListed ..  the contracts of the calls that list
 use Prim.Native.Nat.{ℕ, min}

@@ -19,7 +19,7 @@ use def_wire::LongTime;
 use def_wire::Reading;
 use def_wire::TimeOr;
 
-// Code 0 and what was found; or document 01's number of the refusal and its two values.
+// Code 0 and what was found; or RULES' number of the refusal and its two values.
 #[repr(C)]
 pub struct Flat {
     pub code: u32,

@@ -1,4 +1,4 @@
--- `refusal_number::number` meets its contract: the row of document 01's table that a refusal is (01, "Refusal
+-- `refusal_number::number` meets its contract: the row of RULES' table that a refusal is (RULES, "Refusal
 -- numbers").
 use Rattle.def_refusals.specs.Numbers.{numbered}
 use mathlib.Core.Path.{sym, ap, _∙_}
