@@ -1,1 +1,11 @@
 pub mod Twelve
+pub mod Rows
+pub mod Refusals
+pub mod Wire
+pub mod WireWalk
+pub mod WireBlock
+pub mod Standard
+pub mod Crate
+pub mod Questions
+pub mod Cursor
+pub mod CursorCalls
