@@ -9,8 +9,8 @@ use Rattle.def_crate.specs.declared.Tried.the-variants.{Passes, Fails}
 use Rattle.def_crate.specs.Sequence.{doubledOf, sequenceOf, passes, offsetSequence, movedBy}
 use Rattle.def_crate.specs.Crate.{whileFrom, Try, onesIn, tryAt, triesFrom, crateNumbersFrom, cratePairsFrom}
 use Rattle.def_crate.specs.Crate.{crateWords, crateNumbers, cratePairs}
-use Rattle.examples.specs.Examples.{fields}
-use Rattle.examples.specs.Rows.{rows, pair}
+use Rattle.examples.specs.Rows.{fields, rows}
+use Rattle.examples.specs.Standard.{pair}
 
 pub record Sequence : Type 0 where
   -- the product by 2^T wraps at 65536

@@ -6,16 +6,20 @@ use mathlib.Core.List.{List, [], _∷_, map}
 use Rattle.def_refusals.specs.declared.Refusal.the-variants.{NoPlace, NoRoom}
 use Rattle.def_refusals.specs.declared.Checked.the-variants.{Fine, Unfit}
 use Rattle.def_standard.specs.declared.Range.{Range}
+use Rattle.def_cursor.specs.declared.Cursor.{Cursor}
 use Rattle.def_cursor.specs.declared.Stretch.{Stretch}
 use Rattle.def_cursor.specs.declared.Advanced.the-variants.{Moved, Stuck}
 use Rattle.def_cursor.specs.Cursor.{cursor, start, stepsIn, wordAt, legal, nextPosition, stepOf, listedAt, takenBy}
 use Rattle.def_cursor.specs.Cursor.{afterSteps, listedBy, stepsLeft, cursorFault, stretchOf, advanceTo, leftTo}
 use Rattle.examples.specs.Standard.{range}
-use Rattle.examples.specs.Rows.{place}
 
 -- two ones; nothing; a run of ones of length 0; two zeros; a vector with its ones at places 0 and 14: 21 steps, 19 positions
 abbrev pub five-words : List ℕ
 five-words = 16386 ∷ 0 ∷ 16384 ∷ 2 ∷ 49153 ∷ []
+
+-- word, place, position
+abbrev pub place : ℕ → ℕ → ℕ → Cursor
+place i q p = record { word = i; place = q; position = p }
 
 abbrev pub stretch : ℕ → ℕ → ℕ → ℕ → ℕ → Stretch
 stretch i q p taken listed = record { next = place i q p; taken = taken; listed = listed }

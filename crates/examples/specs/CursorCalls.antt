@@ -8,8 +8,8 @@ use Rattle.def_refusals.specs.declared.Checked.the-variants.{Fine, Unfit}
 use Rattle.def_wire.specs.declared.Rle.the-variants.{Loss, Duplicate}
 use Rattle.def_cursor.specs.declared.Advanced.the-variants.{Moved, Stuck}
 use Rattle.def_cursor.specs.Cursor.{start, advanceFault, advanceOf, stretchFilled, Stretched, StretchedIn, StretchedBy}
-use Rattle.examples.specs.Cursor.{stretch}
-use Rattle.examples.specs.Rows.{rows, packet, place}
+use Rattle.examples.specs.Cursor.{stretch, place}
+use Rattle.examples.specs.Rows.{rows, packet}
 
 -- from 10 to 15, words 16386, 0, 2, 16385: six steps, and 10, 11 and 14 are listed
 abbrev pub a-loss : List ℕ

@@ -13,8 +13,8 @@ use Rattle.def_jobs.specs.Shown.{reported, received, clocked, echoed, bare}
 use Rattle.def_jobs.specs.Jobs.{le16, le32, le64, pairLow, low16, low32, Job, headerKind, cutJob, isWhole, jobAt}
 use Rattle.def_jobs.specs.Jobs.{jobsFrom, jobsOf, senderOf, askedPadding, isHeaderJob, jobFields, isBlockJob, isGood}
 use Rattle.def_jobs.specs.Jobs.{jobsFault, jobWords, jobTimes, askedOf}
-use Rattle.examples.specs.Examples.{fields, echo}
-use Rattle.examples.specs.Rows.{le2, le4, le4s, job, header, body, report, receipts, clock, echoes, pair}
+use Rattle.examples.specs.Rows.{fields, le2, le4, le4s, job, header, body, report, receipts, clock, echoes}
+use Rattle.examples.specs.Standard.{echo, pair}
 
 abbrev pub nine-bytes : List ℕ
 nine-bytes = 0x12 ∷ 0x34 ∷ 0x56 ∷ 0x78 ∷ 0x9a ∷ 0xbc ∷ 0xde ∷ 0xf0 ∷ 0x21 ∷ []

@@ -9,9 +9,8 @@ use Rattle.def_jobs.specs.declared.Layout.the-variants.{Plain, Careful}
 use Rattle.def_jobs.specs.Layout.{bytesOf, isOdd, lastWord, zerosBehind, head, withFields, wordsBytes, blockBytes}
 use Rattle.def_jobs.specs.Layout.{blocksBytes, paddingBytes, firstByte, packetAround, layoutOf}
 use Rattle.def_jobs.specs.Jobs.{Job}
-use Rattle.examples.specs.Examples.{fields}
+use Rattle.examples.specs.Rows.{fields, rows, packet, padded, le2, le4, le2s, le4s, body}
 use Rattle.examples.specs.Jobs.{of-kind}
-use Rattle.examples.specs.Rows.{rows, packet, padded, le2, le4, le2s, le4s, body}
 
 -- word lists: none, one, two with and without a last 0, and the even ones whose last word shows nothing
 abbrev pub word-lists : List (List ℕ)

@@ -9,8 +9,8 @@ use Rattle.def_refusals.specs.Answers.{Or, shown, refused}
 use Rattle.def_wire.specs.declared.Reading.the-variants.{Standard, Crate}
 use Rattle.def_wire.specs.declared.Rle.the-variants.{Loss, Duplicate}
 use Rattle.def_jobs.specs.Shown.{Record, reported, received, clocked, echoed, bare, recordOf, numbersRow, sameRow, sameRecord}
-use Rattle.examples.specs.Examples.{fields, echo}
-use Rattle.examples.specs.Rows.{rows, pair}
+use Rattle.examples.specs.Rows.{fields, rows}
+use Rattle.examples.specs.Standard.{echo, pair}
 
 -- the record of each kind, in each reading
 pub record OfABlock : Type 0 where

@@ -15,7 +15,7 @@ use Rattle.def_jobs.specs.declared.Layout.the-variants.{Plain, Careful}
 use Rattle.def_jobs.specs.Shown.{clocked, echoed}
 use Rattle.def_jobs.specs.Writing.{maxBlocks, maxBytes, sizeFault, shownIn, differs, misleads, misleadingFrom}
 use Rattle.def_jobs.specs.Writing.{misleadFault, packetOf}
-use Rattle.examples.specs.Examples.{echo}
+use Rattle.examples.specs.Standard.{echo}
 use Rattle.examples.specs.Vectors.{packet10, turned10}
 use Rattle.examples.specs.JobsShown.{a-time, an-echo}
 use Rattle.examples.specs.Rows.{packet, padded, job, header, report, clock, echoes}

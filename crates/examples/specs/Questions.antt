@@ -19,8 +19,8 @@ use Rattle.def_questions.specs.Questions.{wordsShown, numbersShown, pairsShown,
 use Rattle.def_questions.specs.Questions.{ListedPairs, ListedEntries}
 use Rattle.def_questions.specs.Packets.{wordsAsked, numbersAsked, pairsAsked, entriesAsked, fieldsAsked, timeAsked}
 use Rattle.def_questions.specs.ByNumber.{wordsBy, numbersBy, fieldsBy}
-use Rattle.examples.specs.Examples.{fields, echo}
-use Rattle.examples.specs.Rows.{rows, packet, pair}
+use Rattle.examples.specs.Rows.{fields, rows, packet}
+use Rattle.examples.specs.Standard.{echo, pair}
 
 -- types 1 and 2 from 10 to 14 with words 16386 and 16387, and one that is too short
 abbrev pub a-loss : List ℕ

@@ -8,10 +8,14 @@ use Rattle.def_refusals.specs.declared.Refusal.the-variants.{BadBlockLength, No
 use Rattle.def_refusals.specs.declared.Refusal.the-variants.{BadRecord, TooMany, Misleads}
 use Rattle.def_refusals.specs.declared.Answer.the-variants.{Done, Refused}
 use Rattle.def_refusals.specs.declared.Checked.the-variants.{Fine, Unfit}
+use Rattle.def_refusals.specs.declared.Numbered.{Numbered}
 use Rattle.def_refusals.specs.Numbers.{numbered, row}
 use Rattle.def_refusals.specs.Answers.{Or, shown, refused, onShown, onDone, onFine, thenCheck, each}
 use Rattle.def_refusals.specs.Answers.{answerOf, filledOf, Listed}
-use Rattle.examples.specs.Rows.{no}
+
+-- a number and two values
+abbrev pub no : ℕ → ℕ → ℕ → Numbered
+no n a b = record { number = n; first = a; second = b }
 
 -- each row of the table: its number, and which of the values stands first
 pub record Numbers : Type 0 where

@@ -4,14 +4,12 @@
 --     le2, le4        a number's bytes, the least significant first; le2s, le4s of each number in turn
 --     job             a record of a job list: body length, kind, body
 --     header, report, receipts, clock, echoes     records of kinds 0; 1 and 2; 3; 4; 5. Sender 1, SSRC 7
---     no, pair, place     a refusal's number and values, a number with its time, a cursor
+--     fields          the fields of a block of types 1 to 3
 use Prim.Native.Nat.{ℕ, _+_, _*_, _/_, _%_}
 use mathlib.Core.Path.{_≡_}
 use mathlib.Core.List.{List, [], _∷_, _++_}
 use lib.ListN.{length}
-use Rattle.def_refusals.specs.declared.Numbered.{Numbered}
-use Rattle.def_standard.specs.declared.Receipt.{Receipt}
-use Rattle.def_cursor.specs.declared.Cursor.{Cursor}
+use Rattle.def_wire.specs.declared.Fields.{Fields}
 use Rattle.examples.specs.Vectors.{packet4, headerJob, lossJob, echoJob, clockJob}
 
 abbrev pub rows : List ℕ → List ℕ
@@ -63,14 +61,9 @@ clock high low = job 4 (le4s (low ∷ high ∷ []))
 abbrev pub echoes : List ℕ → List ℕ
 echoes ns = job 5 (le4s ns)
 
-abbrev pub no : ℕ → ℕ → ℕ → Numbered
-no n a b = record { number = n; first = a; second = b }
-
-abbrev pub pair : ℕ → ℕ → Receipt
-pair n t = record { number = n; time = record { 0 = t } }
-
-abbrev pub place : ℕ → ℕ → ℕ → Cursor
-place i q p = record { word = i; place = q; position = p }
+-- SSRC, begin, end, thinning
+abbrev pub fields : ℕ → ℕ → ℕ → ℕ → Fields
+fields s b e t = record { ssrc = s; begin = b; end = e; thinning = t }
 
 -- what these write, against the twelve examples' bytes
 pub record Rows : Type 0 where

@@ -19,8 +19,7 @@ use Rattle.def_standard.specs.Listing.{listFrom}
 use Rattle.def_standard.specs.Range.{circle, sizeOf, rangeOf, offsetOf, inside, numberOf}
 use Rattle.def_standard.specs.Standard.{valuesOf, isListed, numbersFrom, numbersOf, receipt, pairsFrom, pairsOf}
 use Rattle.def_standard.specs.Standard.{echoesOf, standardWords, standardNumbers, standardPairs, entriesOf}
-use Rattle.examples.specs.Examples.{fields, echo}
-use Rattle.examples.specs.Rows.{rows, pair}
+use Rattle.examples.specs.Rows.{rows, fields}
 
 -- a word of each kind, at the bounds: 0, runs of zeros, runs of ones, vectors
 abbrev pub words : List ℕ
@@ -61,6 +60,14 @@ pub record ChunkWords : Type 0 where
       Listed (wordBytes (Run 2)) (8 ∷ 9 ∷ 10 ∷ []) (Done 2) (0x40 ∷ 2 ∷ 10 ∷ [])
       × Listed (wordBytes (Run 2)) (8 ∷ []) (Refused (NoRoom 2 1)) (8 ∷ [])
       × Listed (wordBytes (Run 16384)) [] (Refused (ValueTooLarge 16384)) []
+
+-- a number and its time
+abbrev pub pair : ℕ → ℕ → Receipt
+pair n t = record { number = n; time = record { 0 = t } }
+
+-- SSRC, last report, delay
+abbrev pub echo : ℕ → ℕ → ℕ → Echo
+echo s l d = record { ssrc = s; last = record { 0 = l }; delay = record { 0 = d } }
 
 -- begin, size, thinning
 abbrev pub range : ℕ → ℕ → ℕ → Range

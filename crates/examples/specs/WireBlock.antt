@@ -18,8 +18,7 @@ use Rattle.def_wire.specs.declared.TimeOr.the-variants.{Time, NoTime}
 use Rattle.def_wire.specs.Block.{headerData, typeOf, specificOf, blockLength, fieldsAt, timeAt, kindType}
 use Rattle.def_wire.specs.Block.{rleOf, rangedOf, kindOf, rule, nextFit, standardRule, crateRule, fitness, checkOf}
 use Rattle.def_wire.specs.Block.{isCut, fieldsOf, timeOf}
-use Rattle.examples.specs.Examples.{fields}
-use Rattle.examples.specs.Rows.{rows}
+use Rattle.examples.specs.Rows.{fields, rows}
 
 -- the numbers that ask for a kind, those around them, and those that a byte or two bytes would take for one
 abbrev pub asked : List ℕ
