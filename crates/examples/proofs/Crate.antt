@@ -43,7 +43,7 @@ crate-lists-hold =
       first-failure = (refl, refl);
       zeros-untested = refl;
       repeated = refl;
-      times = (refl, refl, refl, refl);
+      times = (refl, refl, refl, refl, refl);
     }
 
 pub of-what-is-left-hold : OfWhatIsLeft

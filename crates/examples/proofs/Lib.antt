@@ -14,3 +14,4 @@ pub mod JobsLayout
 pub mod JobsShown
 pub mod JobsWriting
 pub mod JobsOrder
+pub mod JobsSize

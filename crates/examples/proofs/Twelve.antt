@@ -18,7 +18,11 @@ use Rattle.def_jobs.specs.Writing.{misleadingFrom, writeFault, packetOf}
 use Rattle.examples.specs.Examples.{Twelve}
 
 pub twelve : Twelve
-unfolding numbered rleOf rangedOf kindOf pairUp headerOf placeOf walkFrom countOf locate standardRule crateRule fitness checkOf fieldsOf timeOf valuesIn rangeOf offsetOf inside numberOf valuesOf numbersFrom pairsFrom echoesOf passes onesIn triesFrom crateNumbersFrom cratePairsFrom numbersShown pairsShown entriesShown numbersAsked pairsAsked entriesAsked fieldsAsked recordOf numbersRow pairLow jobsFrom isHeaderJob isBlockJob jobsFault zerosBehind blockBytes blocksBytes layoutOf misleadingFrom writeFault packetOf
+unfolding numbered rleOf rangedOf kindOf pairUp headerOf placeOf walkFrom countOf locate standardRule crateRule
+    fitness checkOf fieldsOf timeOf valuesIn rangeOf offsetOf inside numberOf valuesOf numbersFrom pairsFrom
+    echoesOf passes onesIn triesFrom crateNumbersFrom cratePairsFrom numbersShown pairsShown entriesShown
+    numbersAsked pairsAsked entriesAsked fieldsAsked recordOf numbersRow pairLow jobsFrom isHeaderJob isBlockJob
+    jobsFault zerosBehind blockBytes blocksBytes layoutOf misleadingFrom writeFault packetOf
 twelve =
     record {
       one = (refl, refl, refl, refl);

@@ -15,6 +15,7 @@ walk-hold =
       lengths = (refl, refl, refl, refl);
       places = (refl, refl, refl, refl);
       counts = (refl, refl, refl);
+      forty = (refl, refl);
       six = (refl, refl, refl, refl);
       fits = (refl, refl);
       six-at-padding = (refl, refl);

@@ -63,9 +63,10 @@ pub record CrateLists : Type 0 where
   pub zeros-untested : crateNumbersFrom 12 0 10 (2 ∷ 16385 ∷ []) ≡ 12 ∷ []
   -- numbers repeat: example 6
   pub repeated : crateNumbersFrom 0 15 0 (16387 ∷ []) ≡ 0 ∷ 32768 ∷ 0 ∷ []
-  -- times are tried from begin, the first failure ends the list; position p alone decides
+  -- times are tried from begin; the first failure ends the list, also where a later position would pass
   pub times :
       (cratePairsFrom (fields 7 5 7 0) 0 (100 ∷ 200 ∷ 300 ∷ []) ≡ pair 5 100 ∷ pair 6 200 ∷ [])
+      × (cratePairsFrom (fields 7 0 1 15) 0 (100 ∷ 200 ∷ 300 ∷ []) ≡ pair 0 100 ∷ [])
       × (cratePairsFrom (fields 7 5 7 0) 1 (200 ∷ 300 ∷ []) ≡ pair 6 200 ∷ [])
       × (cratePairsFrom (fields 7 65534 5 2) 0 (100 ∷ 200 ∷ 300 ∷ []) ≡ pair 65534 100 ∷ pair 2 200 ∷ [])
       × (cratePairsFrom (fields 7 0 0 15) 0 (100 ∷ 200 ∷ 300 ∷ []) ≡ pair 0 100 ∷ pair 32768 200 ∷ pair 0 300 ∷ [])

@@ -1,4 +1,4 @@
--- Facts of def_cursor: which cursors are legal, one step, and a stretch of steps. RULES, "Views, cursors and the dump".
+-- Facts of def_cursor: which cursors are legal, one step, a stretch of steps. RULES, "Views, cursors and the dump".
 use Prim.Native.Nat.{ℕ}
 use mathlib.Core.Path.{_≡_}
 use mathlib.Core.Bool.{true, false}
@@ -13,7 +13,7 @@ use Rattle.def_cursor.specs.Cursor.{cursor, start, stepsIn, wordAt, legal, next
 use Rattle.def_cursor.specs.Cursor.{afterSteps, listedBy, stepsLeft, cursorFault, stretchOf, advanceTo, leftTo}
 use Rattle.examples.specs.Standard.{range}
 
--- two ones; nothing; a run of ones of length 0; two zeros; a vector with its ones at places 0 and 14: 21 steps, 19 positions
+-- two ones; nothing; a run of ones of length 0; two zeros; a vector, ones at places 0 and 14. 21 steps, 19 positions
 abbrev pub five-words : List ℕ
 five-words = 16386 ∷ 0 ∷ 16384 ∷ 2 ∷ 49153 ∷ []
 
@@ -89,8 +89,8 @@ pub record Steps : Type 0 where
       (afterSteps five-words 0 (place 4 9 1) ≡ place 4 9 1) × (afterSteps five-words 9 (place 5 0 7) ≡ place 5 0 7)
   pub after :
       map (λ k. afterSteps five-words k start) (1 ∷ 2 ∷ 3 ∷ 4 ∷ 5 ∷ 6 ∷ 20 ∷ 21 ∷ 22 ∷ [])
-      ≡ place 0 1 1 ∷ place 1 0 2 ∷ place 2 0 2 ∷ place 3 0 2 ∷ place 3 1 3 ∷ place 4 0 4 ∷ place 4 14 18 ∷ place 5 0 19
-      ∷ place 5 0 19 ∷ []
+      ≡ place 0 1 1 ∷ place 1 0 2 ∷ place 2 0 2 ∷ place 3 0 2 ∷ place 3 1 3 ∷ place 4 0 4 ∷ place 4 14 18
+      ∷ place 5 0 19 ∷ place 5 0 19 ∷ []
   pub after-stopped : afterSteps five-words 3 (place 3 1 65535) ≡ place 4 2 65536
   -- what the stretch lists, and no more
   pub listed :

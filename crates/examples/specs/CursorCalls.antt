@@ -1,9 +1,11 @@
--- Facts of def_cursor: a call on a block's view, on a packet and an index, and by a number; the order is 1 to 6, 9, 10, 7, 16, 11.
+-- Facts of def_cursor: a call on a block's view, on a packet and an index, and by a number. The order is 1 to 6, 9,
+-- 10, 7, 16, 11.
 -- RULES, "Views, cursors and the dump" and "Refusal numbers".
 use Prim.Native.Nat.{ℕ}
 use mathlib.Core.Path.{_≡_}
 use mathlib.Core.List.{List, [], _∷_}
-use Rattle.def_refusals.specs.declared.Refusal.the-variants.{BlockTooLong, NoBlock, OtherType, BadBlockLength, NoPlace, NoRoom}
+use Rattle.def_refusals.specs.declared.Refusal.the-variants.{BlockTooLong, NoBlock, OtherType, BadBlockLength}
+use Rattle.def_refusals.specs.declared.Refusal.the-variants.{NoPlace, NoRoom}
 use Rattle.def_refusals.specs.declared.Checked.the-variants.{Fine, Unfit}
 use Rattle.def_wire.specs.declared.Rle.the-variants.{Loss, Duplicate}
 use Rattle.def_cursor.specs.declared.Advanced.the-variants.{Moved, Stuck}

@@ -54,7 +54,7 @@ pub record Records : Type 0 where
   pub in-order :
       jobsOf (job 1 (7 ∷ []) ++ (job 2 [] ++ job 3 (8 ∷ 9 ∷ [])))
       ≡ of-kind 1 (7 ∷ []) ∷ of-kind 2 [] ∷ of-kind 3 (8 ∷ 9 ∷ []) ∷ []
-  -- an empty list counts as a record, and so does a trailing cut one: under six bytes, or a body longer than what is left
+  -- an empty list counts as a record, and so does a trailing cut one: under six bytes, or a body longer than the rest
   pub cut-records :
       (jobsOf [] ≡ cut ∷ []) × (jobsOf (0 ∷ []) ≡ cut ∷ [])
       × (jobsOf (job 5 [] ++ (0 ∷ 0 ∷ 0 ∷ 0 ∷ 5 ∷ [])) ≡ of-kind 5 [] ∷ cut ∷ [])
@@ -72,8 +72,8 @@ pub record HeaderRecord : Type 0 where
   pub parts : (senderOf (sender-and 0x0506) ≡ 0x01020304) × (askedPadding (sender-and 0x0506) ≡ 0x0506)
   -- padding: 0, 4 and 252; no multiple of 4; 256; one whose low byte alone would do
   pub padding :
-      map (λ n. isHeaderJob (sender-and n)) (0 ∷ 4 ∷ 8 ∷ 252 ∷ 1 ∷ 2 ∷ 3 ∷ 6 ∷ 250 ∷ 253 ∷ 254 ∷ 256 ∷ 260 ∷ 65532 ∷ [])
-      ≡ true ∷ true ∷ true ∷ true ∷ false ∷ false ∷ false ∷ false ∷ false ∷ false ∷ false ∷ false ∷ false ∷ false ∷ []
+      map (λ n. isHeaderJob (sender-and n)) (0 ∷ 4 ∷ 8 ∷ 252 ∷ 1 ∷ 2 ∷ 3 ∷ 6 ∷ 250 ∷ 253 ∷ 254 ∷ 256 ∷ 65532 ∷ [])
+      ≡ true ∷ true ∷ true ∷ true ∷ false ∷ false ∷ false ∷ false ∷ false ∷ false ∷ false ∷ false ∷ false ∷ []
   -- a body of 6 bytes, one less and one more; kind 0 alone
   pub body-size :
       map (λ n. isHeaderJob (of-kind 0 (replicate n 0))) (0 ∷ 5 ∷ 6 ∷ 7 ∷ []) ≡ false ∷ false ∷ true ∷ false ∷ []

@@ -15,8 +15,8 @@ use Rattle.examples.specs.Jobs.{of-kind}
 -- word lists: none, one, two with and without a last 0, and the even ones whose last word shows nothing
 abbrev pub word-lists : List (List ℕ)
 word-lists =
-    [] ∷ (7 ∷ []) ∷ (0 ∷ []) ∷ (7 ∷ 8 ∷ []) ∷ (7 ∷ 0 ∷ []) ∷ (0 ∷ 7 ∷ []) ∷ (7 ∷ 8 ∷ 9 ∷ []) ∷ (7 ∷ 3 ∷ []) ∷ (7 ∷ 16384 ∷ [])
-    ∷ (7 ∷ 32768 ∷ []) ∷ (0 ∷ 0 ∷ []) ∷ (7 ∷ 8 ∷ 9 ∷ 10 ∷ []) ∷ []
+    [] ∷ (7 ∷ []) ∷ (0 ∷ []) ∷ (7 ∷ 8 ∷ []) ∷ (7 ∷ 0 ∷ []) ∷ (0 ∷ 7 ∷ []) ∷ (7 ∷ 8 ∷ 9 ∷ []) ∷ (7 ∷ 3 ∷ [])
+    ∷ (7 ∷ 16384 ∷ []) ∷ (7 ∷ 32768 ∷ []) ∷ (0 ∷ 0 ∷ []) ∷ (7 ∷ 8 ∷ 9 ∷ 10 ∷ []) ∷ []
 
 pub record Zeros : Type 0 where
   pub odd : map isOdd ([] ∷ (7 ∷ []) ∷ (7 ∷ 8 ∷ []) ∷ (7 ∷ 8 ∷ 9 ∷ []) ∷ []) ≡ false ∷ true ∷ false ∷ true ∷ []
@@ -82,7 +82,8 @@ pub record Blocks : Type 0 where
       ≡ rows (0x05000000 ∷ 0x04000002 ∷ 0x01010101 ∷ 0x01010101 ∷ []))
       × (blocksBytes Careful [] ≡ [])
   pub all-careful :
-      blocksBytes Careful (of-kind 1 (body 10 14 0 (le2s (1 ∷ 2 ∷ []))) ∷ of-kind 1 (body 10 14 0 (le2s (3 ∷ []))) ∷ [])
+      blocksBytes Careful
+      (of-kind 1 (body 10 14 0 (le2s (1 ∷ 2 ∷ []))) ∷ of-kind 1 (body 10 14 0 (le2s (3 ∷ []))) ∷ [])
       ≡ rows (0x01000004 ∷ 7 ∷ 0x000a000e ∷ 0x00010002 ∷ 0 ∷ 0x01000003 ∷ 7 ∷ 0x000a000e ∷ 0x00030000 ∷ [])
 
 abbrev pub sender : ℕ → Job

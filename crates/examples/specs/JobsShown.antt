@@ -8,7 +8,8 @@ use Rattle.def_refusals.specs.declared.Refusal.the-variants.{OtherType, BadBloc
 use Rattle.def_refusals.specs.Answers.{Or, shown, refused}
 use Rattle.def_wire.specs.declared.Reading.the-variants.{Standard, Crate}
 use Rattle.def_wire.specs.declared.Rle.the-variants.{Loss, Duplicate}
-use Rattle.def_jobs.specs.Shown.{Record, reported, received, clocked, echoed, bare, recordOf, numbersRow, sameRow, sameRecord}
+use Rattle.def_jobs.specs.Shown.{Record, reported, received, clocked, echoed, bare}
+use Rattle.def_jobs.specs.Shown.{recordOf, numbersRow, sameRow, sameRecord}
 use Rattle.examples.specs.Rows.{fields, rows}
 use Rattle.examples.specs.Standard.{echo, pair}
 
@@ -96,8 +97,8 @@ pub record TheSame : Type 0 where
   -- type 5: SSRC, last report, delay, one entry more; type 4: the time
   pub entries-differ :
       map (sameRecord an-echo)
-      (echoed (echo 9 2 3 ∷ []) ∷ echoed (echo 1 9 3 ∷ []) ∷ echoed (echo 1 2 9 ∷ []) ∷ echoed (echo 1 2 3 ∷ echo 1 2 3 ∷ [])
-      ∷ echoed [] ∷ [])
+      (echoed (echo 9 2 3 ∷ []) ∷ echoed (echo 1 9 3 ∷ []) ∷ echoed (echo 1 2 9 ∷ [])
+      ∷ echoed (echo 1 2 3 ∷ echo 1 2 3 ∷ []) ∷ echoed [] ∷ [])
       ≡ false ∷ false ∷ false ∷ false ∷ false ∷ []
   pub times-differ : sameRecord a-time (clocked (record { 0 = 10 })) ≡ false
   -- records of different kinds, with the same numbers or none

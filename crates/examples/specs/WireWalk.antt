@@ -3,6 +3,7 @@
 use Prim.Native.Nat.{ℕ}
 use mathlib.Core.Path.{_≡_}
 use mathlib.Core.List.{List, [], _∷_}
+use lib.ListN.{replicate}
 use Rattle.def_refusals.specs.declared.Refusal.the-variants.{TooShort, WrongVersion, BlockTooLong, NoBlock}
 use Rattle.def_refusals.specs.declared.Answer.the-variants.{Done, Refused}
 use Rattle.def_refusals.specs.Answers.{Or, shown, refused}
@@ -37,6 +38,10 @@ pub record Walk : Type 0 where
   pub counts :
       (countOf Standard three-blocks ≡ Done 3) × (countOf Crate three-blocks ≡ Done 3)
       × (countOf Standard (packet []) ≡ Done 0)
+  -- reading has no limit of 31 blocks
+  pub forty :
+      (countOf Standard (packet (replicate 40 0x0a000000)) ≡ Done 40)
+      × (countOf Crate (packet (replicate 40 0x0a000000)) ≡ Done 40)
   -- 6 with L and what is left for blocks: one word too long, as the first block and as the second
   pub six :
       (countOf Standard (packet (0x0a000001 ∷ [])) ≡ Refused (BlockTooLong 8 4))
