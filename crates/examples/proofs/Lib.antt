@@ -15,3 +15,4 @@ pub mod JobsShown
 pub mod JobsWriting
 pub mod JobsOrder
 pub mod JobsSize
+pub mod JobsLargest

@@ -2,7 +2,8 @@
 -- each value that goes with a refusal, each order where two apply. proofs/ proves them, under the same file names.
 -- Read in this order: Vectors (packets and job lists, a 32-bit word to a row), Examples (what is claimed of them),
 -- Rows (how the other files write bytes), then those of each definition crate: Refusals; Wire, WireWalk, WireBlock;
--- Standard; Crate; Questions; Cursor, CursorCalls; Jobs, JobsLayout, JobsShown, JobsWriting, JobsOrder, JobsSize.
+-- Standard; Crate; Questions; Cursor, CursorCalls; Jobs, JobsLayout, JobsShown, JobsWriting, JobsOrder, JobsSize,
+-- JobsLargest.
 pub mod Vectors
 pub mod Examples
 pub mod Rows
@@ -21,3 +22,4 @@ pub mod JobsShown
 pub mod JobsWriting
 pub mod JobsOrder
 pub mod JobsSize
+pub mod JobsLargest
