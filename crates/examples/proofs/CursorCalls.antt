@@ -37,6 +37,7 @@ of-a-view-hold =
         record { answer = refl; filled = refl },
         record { answer = refl; filled = refl },
       );
+      no-other = λ r out holds. (holds .answer, holds .filled);
     }
 
 pub of-a-packet-hold : OfAPacket
@@ -57,6 +58,7 @@ of-a-packet-hold =
         record { answer = refl; filled = refl },
         record { answer = refl; filled = refl },
       );
+      no-other = λ r out holds. (holds .answer, holds .filled);
     }
 
 pub by-number-hold : ByNumber
@@ -82,4 +84,5 @@ by-number-hold =
         record { answer = refl; filled = refl },
         record { answer = refl; filled = refl },
       );
+      no-other = λ r out holds. (holds .answer, holds .filled);
     }

@@ -27,6 +27,7 @@ of-a-view-hold =
       numbers = (refl, refl, refl, refl);
       ten = (refl, refl, refl, refl, refl);
       seven = (refl, refl, refl, refl, refl);
+      seven-by-length = (refl, refl);
       no-list = refl;
       pairs = (refl, refl);
       entries = (refl, refl);
@@ -51,6 +52,7 @@ of-a-packet-hold =
       one-to-six = (refl, refl, refl, refl);
       ten = (refl, refl, refl, refl, refl, refl);
       seven = (refl, refl);
+      from-what-follows = (refl, refl, refl, refl);
       eight-refused = (refl, refl);
     }
 
@@ -97,4 +99,6 @@ side-by-side-hold =
         record { answer = refl; ssrcs = refl; lasts = refl; delays = refl },
       );
       entries-refused = record { answer = refl; ssrcs = refl; lasts = refl; delays = refl };
+      no-other-pairs = λ r ns ts holds. (holds .answer, holds .numbers, holds .times);
+      no-other-entries = λ r ss ls ds holds. (holds .answer, holds .ssrcs, holds .lasts, holds .delays);
     }

@@ -39,6 +39,7 @@ answers-hold =
       left-as-is = (refl, refl, refl);
       listed = (record { answer = refl; filled = refl }, record { answer = refl; filled = refl });
       not-listed = (record { answer = refl; filled = refl }, record { answer = refl; filled = refl });
+      no-other = λ r out holds. (holds .answer, holds .filled);
     }
 
 pub one-after-another-hold : OneAfterAnother

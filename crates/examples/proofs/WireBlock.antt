@@ -66,7 +66,7 @@ fields-hold =
     record {
       of-loss = (refl, refl);
       order = (refl, refl, refl);
-      eight-refused = (refl, refl, refl);
+      eight-refused = (refl, refl, refl, refl);
       ten-before-eight = refl;
       from-what-follows = refl;
       time = (refl, refl, refl);

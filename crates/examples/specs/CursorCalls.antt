@@ -8,6 +8,7 @@ use Rattle.def_refusals.specs.declared.Refusal.the-variants.{BlockTooLong, NoBl
 use Rattle.def_refusals.specs.declared.Refusal.the-variants.{NoPlace, NoRoom}
 use Rattle.def_refusals.specs.declared.Checked.the-variants.{Fine, Unfit}
 use Rattle.def_wire.specs.declared.Rle.the-variants.{Loss, Duplicate}
+use Rattle.def_cursor.specs.declared.Advanced.{Advanced}
 use Rattle.def_cursor.specs.declared.Advanced.the-variants.{Moved, Stuck}
 use Rattle.def_cursor.specs.Cursor.{start, advanceFault, advanceOf, stretchFilled, Stretched, StretchedIn, StretchedBy}
 use Rattle.examples.specs.Cursor.{stretch, place}
@@ -64,6 +65,10 @@ pub record OfAView : Type 0 where
       Stretched Loss a-loss (place 0 1 1) 2 (8 ∷ 9 ∷ []) (Moved (stretch 2 0 2 2 1)) (11 ∷ 9 ∷ [])
       × Stretched Loss a-loss start 3 (8 ∷ 9 ∷ []) (Stuck (NoRoom 3 2)) (8 ∷ 9 ∷ [])
       × Stretched Duplicate a-loss start 1 (8 ∷ 9 ∷ []) (Stuck (OtherType 1)) (8 ∷ 9 ∷ [])
+  -- and no other answer, nor other contents, satisfies it
+  pub no-other :
+      (r : Advanced) (out : List ℕ) → Stretched Loss a-loss (place 0 1 1) 2 (8 ∷ 9 ∷ []) r out
+      → (r ≡ Moved (stretch 2 0 2 2 1)) × (out ≡ 11 ∷ 9 ∷ [])
 
 -- an empty block of type 9, then types 1 and 2, then a type 1 block that is too short
 abbrev pub four-blocks : List ℕ
@@ -86,6 +91,9 @@ pub record OfAPacket : Type 0 where
       × StretchedIn four-blocks 3 Loss (place 9 9 9) 9 old (Stuck (BadBlockLength 12 8)) old
       × StretchedIn four-blocks 1 Loss (place 9 9 9) 9 old (Stuck NoPlace) old
       × StretchedIn four-blocks 1 Loss start 9 old (Stuck (NoRoom 9 7)) old
+  pub no-other :
+      (r : Advanced) (out : List ℕ) → StretchedIn four-blocks 1 Loss (place 0 1 1) 2 (8 ∷ 9 ∷ []) r out
+      → (r ≡ Moved (stretch 2 0 2 2 1)) × (out ≡ 11 ∷ 9 ∷ [])
 
 -- the asked type by a number: 1 and 2 are served; any other is 10 with the block's own type, after 9 and before 7
 pub record ByNumber : Type 0 where
@@ -106,3 +114,6 @@ pub record ByNumber : Type 0 where
       × StretchedBy four-blocks 3 1 (place 9 9 9) 9 old (Stuck (BadBlockLength 12 8)) old
       × StretchedBy four-blocks 1 1 (place 9 9 9) 9 old (Stuck NoPlace) old
       × StretchedBy four-blocks 1 1 start 9 old (Stuck (NoRoom 9 7)) old
+  pub no-other :
+      (r : Advanced) (out : List ℕ) → StretchedBy four-blocks 1 1 (place 0 1 1) 2 (8 ∷ 9 ∷ []) r out
+      → (r ≡ Moved (stretch 2 0 2 2 1)) × (out ≡ 11 ∷ 9 ∷ [])

@@ -6,6 +6,7 @@ use mathlib.Core.Path.{_≡_}
 use mathlib.Core.List.{List, [], _∷_}
 use Rattle.def_refusals.specs.declared.Refusal.the-variants.{TooShort, BlockTooLong, NoBlock, OtherType}
 use Rattle.def_refusals.specs.declared.Refusal.the-variants.{BadBlockLength, NoFields, NoRoom}
+use Rattle.def_refusals.specs.declared.Answer.{Answer}
 use Rattle.def_refusals.specs.declared.Answer.the-variants.{Done, Refused}
 use Rattle.def_refusals.specs.Answers.{Or, shown, refused, Listed}
 use Rattle.def_wire.specs.declared.Reading.the-variants.{Standard, Crate}
@@ -66,6 +67,10 @@ pub record OfAView : Type 0 where
       × (pairsShown Standard (rows (0x03000001 ∷ 7 ∷ [])) ≡ refused (BadBlockLength 12 8))
       × (entriesShown Standard (rows (0x05000001 ∷ 1 ∷ [])) ≡ refused (BadBlockLength 16 8))
       × (entriesShown Crate (rows (0x05000002 ∷ 1 ∷ 2 ∷ [])) ≡ refused (BadBlockLength 16 12))
+  -- by L and not by what is left, in the crate too: L 8 with more behind it
+  pub seven-by-length :
+      (wordsShown Crate Loss (rows (0x01000001 ∷ 7 ∷ 8 ∷ 9 ∷ [])) ≡ refused (BadBlockLength 12 8))
+      × (numbersShown Crate Duplicate (rows (0x02000001 ∷ 7 ∷ 8 ∷ 9 ∷ [])) ≡ refused (BadBlockLength 12 8))
   -- the crate's list of a type 3 block with left under 12 is empty, and not refused
   pub no-list : pairsShown Crate (rows (0x03000001 ∷ 7 ∷ [])) ≡ shown []
   -- times and entries up to the view's end, which is the packet's end for the crate
@@ -135,6 +140,13 @@ pub record OfAPacket : Type 0 where
   pub seven :
       (wordsAsked Standard five-blocks 4 Loss ≡ refused (BadBlockLength 12 8))
       × (fieldsAsked Crate five-blocks 4 (Chunks Loss) ≡ NoneOf (BadBlockLength 12 8))
+  -- the crate's view has everything left: a block of 4 bytes has fields and a time from what follows; the standard's is 7
+  pub from-what-follows :
+      (fieldsAsked Crate (packet (0x03000000 ∷ 0x07000001 ∷ 0x00020003 ∷ [])) 0 Times ≡ Shown (fields 0x07000001 2 3 0))
+      × (fieldsAsked Standard (packet (0x03000000 ∷ 0x07000001 ∷ 0x00020003 ∷ [])) 0 Times ≡ NoneOf (BadBlockLength 12 4))
+      × (timeAsked Crate (packet (0x04000000 ∷ 0x07000001 ∷ 0x00020003 ∷ [])) 0
+      ≡ Time (record { 0 = 0x0700000100020003 }))
+      × (timeAsked Standard (packet (0x04000000 ∷ 0x07000001 ∷ 0x00020003 ∷ [])) 0 ≡ NoTime (BadBlockLength 12 4))
   -- 8, where a type 3 block stands last
   pub eight-refused :
       (fieldsAsked Crate (packet (0x03000001 ∷ 7 ∷ [])) 0 Times ≡ NoneOf (NoFields 8))
@@ -215,3 +227,10 @@ pub record SideBySide : Type 0 where
       × ListedEntries one-entry (1 ∷ []) (7 ∷ 8 ∷ []) [] (Refused (NoRoom 1 0)) (1 ∷ []) (7 ∷ 8 ∷ []) []
   pub entries-refused :
       ListedEntries no-entry (1 ∷ []) (7 ∷ []) (9 ∷ []) (Refused (NoBlock 3)) (1 ∷ []) (7 ∷ []) (9 ∷ [])
+  -- no other answer, nor other contents, satisfies the contracts
+  pub no-other-pairs :
+      (r : Answer) (ns ts : List ℕ) → ListedPairs two-pairs (1 ∷ 2 ∷ 3 ∷ []) (7 ∷ 8 ∷ []) r ns ts
+      → (r ≡ Done 2) × (ns ≡ 5 ∷ 6 ∷ 3 ∷ []) × (ts ≡ 100 ∷ 200 ∷ [])
+  pub no-other-entries :
+      (r : Answer) (ss ls ds : List ℕ) → ListedEntries one-entry (1 ∷ 2 ∷ []) (7 ∷ []) (9 ∷ []) r ss ls ds
+      → (r ≡ Done 1) × (ss ≡ 4 ∷ 2 ∷ []) × (ls ≡ 5 ∷ []) × (ds ≡ 6 ∷ [])

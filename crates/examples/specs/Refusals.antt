@@ -6,6 +6,7 @@ use Rattle.def_refusals.specs.declared.Refusal.the-variants.{TooShort, WrongVer
 use Rattle.def_refusals.specs.declared.Refusal.the-variants.{BadPadding, BlockTooLong, NoBlock, OtherType}
 use Rattle.def_refusals.specs.declared.Refusal.the-variants.{BadBlockLength, NoFields, NoPlace, NoRoom, ValueTooLarge}
 use Rattle.def_refusals.specs.declared.Refusal.the-variants.{BadRecord, TooMany, Misleads}
+use Rattle.def_refusals.specs.declared.Answer.{Answer}
 use Rattle.def_refusals.specs.declared.Answer.the-variants.{Done, Refused}
 use Rattle.def_refusals.specs.declared.Checked.the-variants.{Fine, Unfit}
 use Rattle.def_refusals.specs.declared.Numbered.{Numbered}
@@ -76,6 +77,8 @@ pub record Answers : Type 0 where
   pub listed : Listed two-items old (Done 2) (4 ∷ 5 ∷ 3 ∷ []) × Listed two-items (1 ∷ 2 ∷ []) (Done 2) (4 ∷ 5 ∷ [])
   pub not-listed :
       Listed two-items (1 ∷ []) (Refused (NoRoom 2 1)) (1 ∷ []) × Listed turned-down [] (Refused (NoBlock 3)) []
+  -- and no other answer, nor other contents, satisfies it
+  pub no-other : (r : Answer) (out : List ℕ) → Listed two-items old r out → (r ≡ Done 2) × (out ≡ 4 ∷ 5 ∷ 3 ∷ [])
 
 -- a question after another: the first refusal is the answer
 pub record OneAfterAnother : Type 0 where

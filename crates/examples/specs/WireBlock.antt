@@ -145,10 +145,11 @@ pub record Fields : Type 0 where
       (fieldsOf Standard (Chunks Duplicate) short-loss ≡ NoneOf (OtherType 1))
       × (fieldsOf Standard (Chunks Loss) short-loss ≡ NoneOf (BadBlockLength 12 8))
       × (fieldsOf Standard Times (rows (0x03000001 ∷ 7 ∷ [])) ≡ NoneOf (BadBlockLength 12 8))
-  -- crate, type 3: 8 with left 4 and 8, and 12 bytes are enough
+  -- crate, type 3: 8 with left 4 and 8, whatever L is, and 12 bytes are enough
   pub eight-refused :
       (fieldsOf Crate Times (rows (0x03000000 ∷ [])) ≡ NoneOf (NoFields 4))
       × (fieldsOf Crate Times (rows (0x03000001 ∷ 7 ∷ [])) ≡ NoneOf (NoFields 8))
+      × (fieldsOf Crate Times (rows (0x03000000 ∷ 7 ∷ [])) ≡ NoneOf (NoFields 8))
       × (fieldsOf Crate Times (rows (0x03050002 ∷ 7 ∷ 0x00020003 ∷ [])) ≡ Shown (fields 7 2 3 5))
   -- 10 before 8
   pub ten-before-eight : fieldsOf Crate Times (rows (0x04000000 ∷ [])) ≡ NoneOf (OtherType 4)
