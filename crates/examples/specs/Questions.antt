@@ -140,10 +140,12 @@ pub record OfAPacket : Type 0 where
   pub seven :
       (wordsAsked Standard five-blocks 4 Loss ≡ refused (BadBlockLength 12 8))
       × (fieldsAsked Crate five-blocks 4 (Chunks Loss) ≡ NoneOf (BadBlockLength 12 8))
-  -- the crate's view has everything left: a block of 4 bytes has fields and a time from what follows; the standard's is 7
+  -- the crate's view has everything left: a block of 4 bytes has fields and a time from what follows; standard 7
   pub from-what-follows :
-      (fieldsAsked Crate (packet (0x03000000 ∷ 0x07000001 ∷ 0x00020003 ∷ [])) 0 Times ≡ Shown (fields 0x07000001 2 3 0))
-      × (fieldsAsked Standard (packet (0x03000000 ∷ 0x07000001 ∷ 0x00020003 ∷ [])) 0 Times ≡ NoneOf (BadBlockLength 12 4))
+      (fieldsAsked Crate (packet (0x03000000 ∷ 0x07000001 ∷ 0x00020003 ∷ [])) 0 Times
+      ≡ Shown (fields 0x07000001 2 3 0))
+      × (fieldsAsked Standard (packet (0x03000000 ∷ 0x07000001 ∷ 0x00020003 ∷ [])) 0 Times
+      ≡ NoneOf (BadBlockLength 12 4))
       × (timeAsked Crate (packet (0x04000000 ∷ 0x07000001 ∷ 0x00020003 ∷ [])) 0
       ≡ Time (record { 0 = 0x0700000100020003 }))
       × (timeAsked Standard (packet (0x04000000 ∷ 0x07000001 ∷ 0x00020003 ∷ [])) 0 ≡ NoTime (BadBlockLength 12 4))
