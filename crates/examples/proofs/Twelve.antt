@@ -19,10 +19,10 @@ use Rattle.examples.specs.Examples.{Twelve}
 
 pub twelve : Twelve
 unfolding numbered rleOf rangedOf kindOf pairUp headerOf placeOf walkFrom countOf locate standardRule crateRule
-    fitness checkOf fieldsOf timeOf valuesIn rangeOf offsetOf inside numberOf valuesOf numbersFrom pairsFrom echoesOf
-    passes onesIn triesFrom crateNumbersFrom cratePairsFrom numbersShown pairsShown entriesShown numbersAsked
-    pairsAsked entriesAsked fieldsAsked recordOf numbersRow pairLow jobsFrom isHeaderJob isBlockJob jobsFault
-    zerosBehind blockBytes blocksBytes layoutOf misleadingFrom writeFault packetOf
+    fitness checkOf fieldsOf timeOf valuesIn rangeOf offsetOf inside numberOf valuesOf numbersFrom pairsFrom
+    echoesOf passes onesIn triesFrom crateNumbersFrom cratePairsFrom numbersShown pairsShown entriesShown
+    numbersAsked pairsAsked entriesAsked fieldsAsked recordOf numbersRow pairLow jobsFrom isHeaderJob isBlockJob
+    jobsFault zerosBehind blockBytes blocksBytes layoutOf misleadingFrom writeFault packetOf
 twelve =
     record {
       one = (refl, refl, refl, refl);

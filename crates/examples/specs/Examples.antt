@@ -2,19 +2,18 @@
 -- computation.
 use Prim.Native.Nat.{ℕ}
 use mathlib.Core.Path.{_≡_}
-use mathlib.Core.List.{[], _∷_, _++_}
+use mathlib.Core.List.{List, [], _∷_, _++_}
 use Rattle.def_refusals.specs.declared.Refusal.the-variants.{TooShort, BadBlockLength, Misleads}
 use Rattle.def_refusals.specs.declared.Answer.the-variants.{Done, Refused}
+use Rattle.def_refusals.specs.declared.Numbered.{Numbered}
 use Rattle.def_refusals.specs.Numbers.{numbered, row}
-use Rattle.def_refusals.specs.Answers.{shown, refused}
+use Rattle.def_refusals.specs.Answers.{Or, shown, refused}
 use Rattle.def_wire.specs.declared.Reading.the-variants.{Standard, Crate}
-use Rattle.def_wire.specs.declared.Fields.{Fields}
 use Rattle.def_wire.specs.declared.FieldsOr.the-variants.{Shown}
 use Rattle.def_wire.specs.Packet.{countOf, lengthAt}
 use Rattle.def_wire.specs.declared.Rle.the-variants.{Loss}
 use Rattle.def_wire.specs.declared.Ranged.the-variants.{Chunks}
-use Rattle.def_standard.specs.declared.Echo.{Echo}
-use Rattle.def_standard.specs.Chunks.{coversOf}
+use Rattle.def_standard.specs.Chunks.{coversOf, valueOf}
 use Rattle.def_standard.specs.Range.{rangeOf}
 use Rattle.def_standard.specs.Standard.{numbersOf, receipt}
 use Rattle.def_crate.specs.Crate.{onesIn}
@@ -23,12 +22,8 @@ use Rattle.def_jobs.specs.declared.Layout.the-variants.{Careful}
 use Rattle.def_jobs.specs.Writing.{packetOf}
 use Rattle.examples.specs.Vectors.{packet3, packet4, packet5, packet6, packet7, packet9, packet10, turned10}
 use Rattle.examples.specs.Vectors.{packet11, packet12, headerJob, lossJob, echoJob, clockJob}
-
-abbrev pub fields : ℕ → ℕ → ℕ → ℕ → Fields
-fields s b e t = record { ssrc = s; begin = b; end = e; thinning = t }
-
-abbrev pub echo : ℕ → ℕ → ℕ → Echo
-echo s l d = record { ssrc = s; last = record { 0 = l }; delay = record { 0 = d } }
+use Rattle.examples.specs.Rows.{fields}
+use Rattle.examples.specs.Standard.{echo}
 
 pub record Twelve : Type 0 where
   -- words 0, 3, 32768 list nothing and cover 0, 3, 15
@@ -59,8 +54,8 @@ pub record Twelve : Type 0 where
   -- standard two pairs; crate also 7 with 67108866 and 8 with the clock's high half
   pub seven :
       (pairsAsked Standard (packet7 9) 0 ≡ shown (receipt 5 100 ∷ receipt 6 200 ∷ []))
-      × (pairsAsked Crate (packet7 9) 0 ≡ shown (receipt 5 100 ∷ receipt 6 200 ∷ receipt 7 67108866 ∷ receipt 8
-      0x11223344 ∷ []))
+      × (pairsAsked Crate (packet7 9) 0
+      ≡ shown (receipt 5 100 ∷ receipt 6 200 ∷ receipt 7 67108866 ∷ receipt 8 0x11223344 ∷ []))
   -- two pairs in both
   pub eight :
       (pairsAsked Standard (packet7 7) 0 ≡ shown (receipt 5 100 ∷ receipt 6 200 ∷ []))

@@ -1,1 +1,1 @@
-// Document 01's twelve examples, stated in specs/Examples.antt and proved in proofs/Twelve.antt.
+// Document 01's twelve examples and the worked facts of the definitions: stated in specs/, proved in proofs/.

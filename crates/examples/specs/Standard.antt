@@ -1,0 +1,147 @@
+-- Facts of def_standard: one chunk word, the range, and the standard reading's lists.
+-- RULES, "Packet and blocks", "Standard reading" and "Refusal numbers" (13).
+use Prim.Native.Nat.{ℕ}
+use mathlib.Core.Path.{_≡_}
+use mathlib.Core.Bool.{true, false}
+use mathlib.Core.List.{List, [], _∷_, map}
+use lib.Dec.{ltb}
+use lib.ListN.{length, getD}
+use Rattle.def_refusals.specs.declared.Refusal.the-variants.{ValueTooLarge, NoRoom}
+use Rattle.def_refusals.specs.declared.Answer.the-variants.{Done, Refused}
+use Rattle.def_refusals.specs.Answers.{Or, shown, refused, Listed}
+use Rattle.def_standard.specs.declared.Chunk.the-variants.{Null, Skip, Run, Vector}
+use Rattle.def_standard.specs.declared.MadeWord.the-variants.{Word, Unmade}
+use Rattle.def_standard.specs.declared.Range.{Range}
+use Rattle.def_standard.specs.declared.Receipt.{Receipt}
+use Rattle.def_standard.specs.declared.Echo.{Echo}
+use Rattle.def_standard.specs.Chunks.{coversOf, valueOf, countFrom, valuesIn, chunkOf, wordOf, wordBytes}
+use Rattle.def_standard.specs.Listing.{listFrom}
+use Rattle.def_standard.specs.Range.{circle, sizeOf, rangeOf, offsetOf, inside, numberOf}
+use Rattle.def_standard.specs.Standard.{valuesOf, isListed, numbersFrom, numbersOf, receipt, pairsFrom, pairsOf}
+use Rattle.def_standard.specs.Standard.{echoesOf, standardWords, standardNumbers, standardPairs, entriesOf}
+use Rattle.examples.specs.Rows.{rows, fields}
+
+-- a word of each kind, at the bounds: 0, runs of zeros, runs of ones, vectors
+abbrev pub words : List ℕ
+words = 0 ∷ 1 ∷ 16383 ∷ 16384 ∷ 16385 ∷ 32767 ∷ 32768 ∷ 65535 ∷ []
+
+pub record ChunkWords : Type 0 where
+  -- 0 and 16384 cover none, a run its low 14 bits, a vector 15
+  pub covers : map coversOf words ≡ 0 ∷ 1 ∷ 16383 ∷ 0 ∷ 1 ∷ 16383 ∷ 15 ∷ 15 ∷ []
+  -- a run's value is the bit below the top, at each of its places
+  pub run-value : (valueOf 3 0 ≡ 0) × (valueOf 16383 16382 ≡ 0) × (valueOf 16387 0 ≡ 1) × (valueOf 16387 2 ≡ 1)
+  -- a vector: most significant first, place 0 below the top bit, place 14 the lowest bit
+  pub vector-value :
+      (map (valueOf 49152) (0 ∷ 1 ∷ 14 ∷ []) ≡ 1 ∷ 0 ∷ 0 ∷ [])
+      × (map (valueOf 32769) (0 ∷ 13 ∷ 14 ∷ []) ≡ 0 ∷ 0 ∷ 1 ∷ [])
+      × (map (valueOf 40962) (0 ∷ 1 ∷ 2 ∷ 12 ∷ 13 ∷ 14 ∷ []) ≡ 0 ∷ 1 ∷ 0 ∷ 0 ∷ 1 ∷ 0 ∷ [])
+  -- past the last place a vector's value stays that of its last
+  pub past-the-last : (valueOf 32769 15 ≡ 1) × (valueOf 32769 16 ≡ 1) × (valueOf 65534 15 ≡ 0)
+  pub counting : (countFrom 3 4 ≡ 3 ∷ 4 ∷ 5 ∷ 6 ∷ []) × (countFrom 3 0 ≡ [])
+  pub values :
+      (valuesIn 0 ≡ []) × (valuesIn 2 ≡ 0 ∷ 0 ∷ []) × (valuesIn 16384 ≡ []) × (valuesIn 16387 ≡ 1 ∷ 1 ∷ 1 ∷ [])
+      × (valuesIn 0xd001 ≡ 1 ∷ 0 ∷ 1 ∷ 0 ∷ 0 ∷ 0 ∷ 0 ∷ 0 ∷ 0 ∷ 0 ∷ 0 ∷ 0 ∷ 0 ∷ 0 ∷ 1 ∷ [])
+  -- the kind, and its number
+  pub chunk :
+      map chunkOf words
+      ≡ Null ∷ Skip 1 ∷ Skip 16383 ∷ Run 0 ∷ Run 1 ∷ Run 16383 ∷ Vector 0 ∷ Vector 32767 ∷ []
+  -- the word of a kind, up to the limit; SkipLength(0) is 0
+  pub made :
+      map wordOf (Null ∷ Skip 0 ∷ Skip 1 ∷ Skip 16383 ∷ Run 0 ∷ Run 1 ∷ Run 16383 ∷ Vector 0 ∷ Vector 32767 ∷ [])
+      ≡ Word 0 ∷ Word 0 ∷ Word 1 ∷ Word 16383 ∷ Word 16384 ∷ Word 16385 ∷ Word 32767 ∷ Word 32768 ∷ Word 65535 ∷ []
+  -- 13 with the value: one over the limit, and far over
+  pub thirteen :
+      (wordOf (Skip 16384) ≡ Unmade (ValueTooLarge 16384)) × (wordOf (Run 16384) ≡ Unmade (ValueTooLarge 16384))
+      × (wordOf (Vector 32768) ≡ Unmade (ValueTooLarge 32768)) × (wordOf (Run 65537) ≡ Unmade (ValueTooLarge 65537))
+  -- two bytes, big-endian
+  pub bytes : (wordBytes (Run 2) ≡ shown (0x40 ∷ 2 ∷ [])) × (wordBytes (Run 16384) ≡ refused (ValueTooLarge 16384))
+  -- 13 before 11; the room needed is 2
+  pub into-a-buffer :
+      Listed (wordBytes (Run 2)) (8 ∷ 9 ∷ 10 ∷ []) (Done 2) (0x40 ∷ 2 ∷ 10 ∷ [])
+      × Listed (wordBytes (Run 2)) (8 ∷ []) (Refused (NoRoom 2 1)) (8 ∷ [])
+      × Listed (wordBytes (Run 16384)) [] (Refused (ValueTooLarge 16384)) []
+
+-- a number and its time
+abbrev pub pair : ℕ → ℕ → Receipt
+pair n t = record { number = n; time = record { 0 = t } }
+
+-- SSRC, last report, delay
+abbrev pub echo : ℕ → ℕ → ℕ → Echo
+echo s l d = record { ssrc = s; last = record { 0 = l }; delay = record { 0 = d } }
+
+-- begin, size, thinning
+abbrev pub range : ℕ → ℕ → ℕ → Range
+range b r t = record { begin = b; size = r; thinning = t }
+
+pub record Ranges : Type 0 where
+  -- (end − begin) mod 65536, and 65536 where they are equal
+  pub size :
+      (sizeOf 10 14 ≡ 4) × (sizeOf 65534 2 ≡ 4) × (sizeOf 1 0 ≡ 65535) × (sizeOf 0 65535 ≡ 65535) × (sizeOf 0 1 ≡ 1)
+      × (sizeOf 5 5 ≡ 65536) × (sizeOf 0 0 ≡ 65536)
+  pub of-fields : rangeOf (fields 7 65530 2 3) ≡ range 65530 8 3
+  -- p · 2^T, which does not wrap
+  pub offset :
+      (offsetOf (range 9 1 0) 5 ≡ 5) × (offsetOf (range 9 1 3) 5 ≡ 40) × (offsetOf (range 9 1 15) 2 ≡ 65536)
+      × (offsetOf (range 9 1 15) 65536 ≡ 2147483648)
+  -- inside: p · 2^T < R, the last position and one past it
+  pub is-inside :
+      (map (inside (range 9 4 0)) (0 ∷ 3 ∷ 4 ∷ []) ≡ true ∷ true ∷ false ∷ [])
+      × (map (inside (range 9 9 3)) (1 ∷ 2 ∷ []) ≡ true ∷ false ∷ [])
+      × (map (inside (range 9 8 3)) (0 ∷ 1 ∷ []) ≡ true ∷ false ∷ [])
+      × (map (inside (range 0 65536 15)) (1 ∷ 2 ∷ 3 ∷ []) ≡ true ∷ false ∷ false ∷ [])
+      × (map (inside (range 0 65536 0)) (65535 ∷ 65536 ∷ []) ≡ true ∷ false ∷ [])
+  -- (begin + p · 2^T) mod 65536
+  pub number :
+      (numberOf (range 10 4 0) 3 ≡ 13) × (numberOf (range 65534 4 0) 2 ≡ 0) × (numberOf (range 65534 64 3) 5 ≡ 38)
+      × (numberOf (range 1 65536 15) 2 ≡ 1)
+  pub all-numbers : circle ≡ 65536
+
+pub record Lists : Type 0 where
+  -- items stand at p, p + 1, ..; those that pass are made, in order, and one that fails does not end the list
+  pub by-positions : listFrom ltb (λ q x. x) 3 (4 ∷ 4 ∷ 9 ∷ []) ≡ 4 ∷ 9 ∷ []
+  pub position-made : listFrom {A = ℕ} (λ q x. true) (λ q x. q) 3 (0 ∷ 0 ∷ []) ≡ 3 ∷ 4 ∷ []
+  -- positions run through the words in order; words that cover none have none
+  pub through-the-words : valuesOf (16386 ∷ 0 ∷ 16384 ∷ 1 ∷ 16385 ∷ []) ≡ 1 ∷ 1 ∷ 0 ∷ 1 ∷ []
+  -- value one, and inside
+  pub is-listed :
+      (isListed (range 10 2 0) 1 1 ≡ true) × (isListed (range 10 2 0) 1 0 ≡ false)
+      × (isListed (range 10 2 0) 2 1 ≡ false)
+  -- from position p on: example 5's words, and the same words two positions further
+  pub from-a-position :
+      (numbersFrom (range 10 4 0) 0 (16386 ∷ 1 ∷ 16387 ∷ []) ≡ 10 ∷ 11 ∷ 13 ∷ [])
+      × (numbersFrom (range 10 4 0) 2 (16386 ∷ 1 ∷ 16387 ∷ []) ≡ 12 ∷ 13 ∷ [])
+  pub from-the-start : numbersOf (range 10 4 0) (16386 ∷ 1 ∷ 16387 ∷ []) ≡ 10 ∷ 11 ∷ 13 ∷ []
+  -- T: every 2^T is reported, and numbers wrap
+  pub thinned :
+      (numbersOf (range 65532 9 2) (16389 ∷ []) ≡ 65532 ∷ 0 ∷ 4 ∷ [])
+      × (numbersOf (range 0 65536 15) (16387 ∷ []) ≡ 0 ∷ 32768 ∷ [])
+      × (numbersOf (range 7 1 15) (16387 ∷ []) ≡ 7 ∷ [])
+  -- the whole circle by 4096: 16 positions are inside, and position 16, again number 5, is not
+  pub whole-circle :
+      (length (numbersOf (range 5 65536 12) (16401 ∷ [])) ≡ 16)
+      × (getD (numbersOf (range 5 65536 12) (16401 ∷ [])) 15 0 ≡ 61445)
+  pub a-receipt : receipt 5 100 ≡ pair 5 100
+  -- time p belongs to position p, and is listed where that is inside
+  pub pairs :
+      (pairsOf (range 5 2 0) (100 ∷ 200 ∷ 300 ∷ []) ≡ pair 5 100 ∷ pair 6 200 ∷ [])
+      × (pairsOf (range 5 9 0) (100 ∷ 200 ∷ []) ≡ pair 5 100 ∷ pair 6 200 ∷ [])
+      × (pairsOf (range 65534 5 2) (100 ∷ 200 ∷ 300 ∷ []) ≡ pair 65534 100 ∷ pair 2 200 ∷ [])
+      × (pairsFrom (range 5 3 0) 2 (100 ∷ 200 ∷ []) ≡ pair 7 100 ∷ [])
+  -- SSRC, last report, delay; whole entries only
+  pub echoes :
+      (echoesOf (1 ∷ 2 ∷ 3 ∷ 4 ∷ 5 ∷ 6 ∷ []) ≡ echo 1 2 3 ∷ echo 4 5 6 ∷ [])
+      × (echoesOf (1 ∷ 2 ∷ 3 ∷ 4 ∷ []) ≡ echo 1 2 3 ∷ []) × (echoesOf (1 ∷ 2 ∷ 3 ∷ 4 ∷ 5 ∷ []) ≡ echo 1 2 3 ∷ [])
+      × (echoesOf (1 ∷ 2 ∷ []) ≡ []) × (echoesOf (1 ∷ []) ≡ []) × (echoesOf [] ≡ [])
+
+-- a block's own bytes
+pub record OfABlock : Type 0 where
+  -- all words count, the last too; from byte 12 on; none where L is 12
+  pub chunk-words :
+      (standardWords (rows (0x01000004 ∷ 7 ∷ 0x000a000e ∷ 0x40020000 ∷ 0x00014003 ∷ [])) ≡ 16386 ∷ 0 ∷ 1 ∷ 16387 ∷ [])
+      × (standardWords (rows (0x01000002 ∷ 7 ∷ 0x000a000e ∷ [])) ≡ [])
+  pub numbers : standardNumbers (rows (0x01010003 ∷ 7 ∷ 0x000a0010 ∷ 0x40024002 ∷ [])) ≡ 10 ∷ 12 ∷ 14 ∷ []
+  pub none : standardNumbers (rows (0x01000002 ∷ 7 ∷ 0x000a000e ∷ [])) ≡ []
+  pub times : standardPairs (rows (0x03010004 ∷ 7 ∷ 0x00050009 ∷ 100 ∷ 200 ∷ [])) ≡ pair 5 100 ∷ pair 7 200 ∷ []
+  pub entries :
+      (entriesOf (rows (0x05000006 ∷ 1 ∷ 2 ∷ 3 ∷ 4 ∷ 5 ∷ 6 ∷ [])) ≡ echo 1 2 3 ∷ echo 4 5 6 ∷ [])
+      × (entriesOf (rows (0x05000000 ∷ [])) ≡ [])
