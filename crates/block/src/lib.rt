@@ -1,5 +1,6 @@
 // One block: whether it is of the asked type and fit to be read, its fields and its time, in both readings.
-// Port of: xr/mod.rs XrBlock::parse_into; the parse functions and accessors of rle.rs, packet_receipt_time.rs, receiver_reference_time.rs, dlrr.rs.
+// Port of: xr/mod.rs XrBlock::parse_into; the parse functions and accessors of rle.rs, packet_receipt_time.rs,
+// receiver_reference_time.rs, dlrr.rs.
 ghost use mathlib.Core.Path.{_≡_};
 ghost use Prim.Native.Nat.{_^_, _≤_, _<_};
 ghost use Rattle.def_wire.specs.Block.{standardRule, crateRule, checkOf, isCut, fieldsAt, fieldsOf, timeOf};

@@ -1,5 +1,6 @@
-// The questions of a packet and a block's index with the asked type given by a number, as callers in other languages and test programs ask. A
-// number that a question does not serve is 10 with the block's own type, in 10's place (RULES, "Refusal numbers").
+// The questions of a packet and a block's index with the asked type given by a number, as callers in other languages
+// and test programs ask. A number that a question does not serve is 10 with the block's own type, in 10's place
+// (RULES, "Refusal numbers").
 ghost use mathlib.Core.Path.{_≡_};
 ghost use Rattle.def_refusals.specs.Answers.{Listed};
 ghost use Rattle.def_wire.specs.Packet.{viewOf};

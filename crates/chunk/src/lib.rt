@@ -1,5 +1,5 @@
-// One chunk word, taken apart and built by shifts and masks: kind bit, run bit, 14-bit length, place in the vector, most significant first
-// (RFC 3611, 4.1.1 to 4.1.3; RULES, "Packet and blocks"). Port of: rle.rs RleChunk.
+// One chunk word, taken apart and built by shifts and masks: kind bit, run bit, 14-bit length, place in the vector,
+// most significant first (RFC 3611, 4.1.1 to 4.1.3; RULES, "Packet and blocks"). Port of: rle.rs RleChunk.
 ghost use mathlib.Core.Path.{_≡_};
 ghost use Prim.Native.Nat.{_+_, _-_, _/_, _%_, _^_, _≤_};
 ghost use lib.ListN.{length};
@@ -39,7 +39,8 @@ pub fn vector_bits(w: u16) -> u16
     w & 0x7fff
 }
 
-// The bit at place q of a vector, most significant first; from place 14 on it is the lowest bit. Port of: rle.rs RleChunkIter::next.
+// The bit at place q of a vector, most significant first; from place 14 on it is the lowest bit. Port of: rle.rs
+// RleChunkIter::next.
 pub fn place_bit(w: u16, q: u16) -> u16
     ensures { λ r. ⌜ r ≡ w / 2 ^ (14 - q) % 2 ⌝ }
 {
@@ -64,8 +65,8 @@ pub fn value(w: u16, q: u16) -> u16
     }
 }
 
-// How many of a word's first places have value one, by arithmetic and a count of bits. Port of: rle.rs RleChunkIter::next, called until it
-// ends; differs: not place by place, and only up to the room asked.
+// How many of a word's first places have value one, by arithmetic and a count of bits. Port of: rle.rs
+// RleChunkIter::next, called until it ends; differs: not place by place, and only up to the room asked.
 pub fn ones_before(w: u16, room: usize) -> usize
     ensures { λ r. ⌜ r ≡ length (onesBefore w room) ⌝ }
 {
@@ -111,7 +112,8 @@ fn vector_word(v: u16) -> u16
     0x8000 | v
 }
 
-// The word of a kind, or 13 (RULES, "Refusal numbers"). Port of: rle.rs RleChunk::write_into; differs: refuses where the Rust masks.
+// The word of a kind, or 13 (RULES, "Refusal numbers"). Port of: rle.rs RleChunk::write_into; differs: refuses where
+// the Rust masks.
 pub fn word_of(c: Chunk) -> MadeWord
     ensures { λ r. ⌜ r ≡ wordOf c ⌝ }
 {
@@ -141,8 +143,8 @@ pub fn word_of(c: Chunk) -> MadeWord
     }
 }
 
-// Makes one chunk word in the bytes lent, 13 before 11 (RULES, "Refusal numbers"). Port of: rle.rs RleChunk::write_into; differs: 13 where
-// the Rust masks, 11 where it panics.
+// Makes one chunk word in the bytes lent, 13 before 11 (RULES, "Refusal numbers"). Port of: rle.rs
+// RleChunk::write_into; differs: 13 where the Rust masks, 11 where it panics.
 pub fn write_chunk(c: Chunk, out: &mut [u8]) -> Answer
     ensures { λ r. ⌜ Listed (wordBytes c) (now (out .entry)) r (now (out .exit)) ⌝ }
 {

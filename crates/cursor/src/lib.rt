@@ -1,5 +1,5 @@
-// The standard number cursor (RULES, "Views, cursors and the dump"): a call takes a budget of steps from a place of a block's words, lists
-// that stretch's numbers, and reports how many steps it took and where the next call goes on.
+// The standard number cursor (RULES, "Views, cursors and the dump"): a call takes a budget of steps from a place of a
+// block's words, lists that stretch's numbers, and reports how many steps it took and where the next call goes on.
 ghost use mathlib.Core.Path.{_≡_};
 ghost use mathlib.Core.Bool.{true};
 ghost use Prim.Native.Nat.{_+_, _-_, _≤_, _<_, min};
@@ -77,7 +77,8 @@ fn moved(w: u16, m: usize, c: Cursor) -> Cursor
     }
 }
 
-// At most budget steps from a legal cursor, word by word: in the word at hand all steps at once, and only the numbers inside are stored.
+// At most budget steps from a legal cursor, word by word: in the word at hand all steps at once, and only the numbers
+// inside are stored.
 fn go(bytes: &[u8], g: Range, c: Cursor, budget: usize, out: &mut [u16]) -> Stretch
     requires { ⌜ insideCount g ≤ circle ⌝ }
     requires { ⌜ legal (words16 (now bytes)) c ≡ true ⌝ }
@@ -140,9 +141,10 @@ fn advance_words(bytes: &[u8], g: Range, c: Cursor, budget: usize, out: &mut [u1
     Advanced::Moved(go(bytes, g, c, budget, out))
 }
 
-// Takes at most budget steps in a block, asked as type 1 or 2: 10, 7, 16, 11. It lists the stretch's numbers and gives the next cursor and the steps
-// taken. A call costs what the words that it reads and the numbers that it stores cost, whatever the budget (RULES, "Views, cursors and the
-// dump"; RFC 3611, 4.1). Port of: rle.rs RleSequenceIter; differs: a budget and a cursor in place of an iterator, and the standard reading.
+// Takes at most budget steps in a block, asked as type 1 or 2: 10, 7, 16, 11. It lists the stretch's numbers and
+// gives the next cursor and the steps taken. A call costs what the words that it reads and the numbers that it stores
+// cost, whatever the budget (RULES, "Views, cursors and the dump"; RFC 3611, 4.1). Port of: rle.rs RleSequenceIter;
+// differs: a budget and a cursor in place of an iterator, and the standard reading.
 pub fn advance(a: Rle, v: &[u8], c: Cursor, budget: usize, out: &mut [u16]) -> Advanced
     ensures { λ r. ⌜ Stretched a (now (v .entry)) c budget (now (out .entry)) r (now (out .exit)) ⌝ }
 {

@@ -8,7 +8,8 @@ pub struct Cursor {
     pub position: usize,
 }
 
-// What a call with a budget of steps gives: the next cursor, the steps that were taken, and how many numbers were listed.
+// What a call with a budget of steps gives: the next cursor, the steps that were taken, and how many numbers were
+// listed.
 pub struct Stretch {
     pub next: Cursor,
     pub taken: usize,

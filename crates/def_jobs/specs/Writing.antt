@@ -2,7 +2,8 @@
 -- and writing").
 --     misleads      whether the crate reading shows a block otherwise than the standard
 --     packetOf      the packet of a job list, or 12, 14 and 15 in that order
--- A writer's contract is def_refusals' `Listed (packetOf layout list)`: 11 comes last, and bytes behind the packet stay.
+-- A writer's contract is def_refusals' `Listed (packetOf layout list)`: 11 comes last, and bytes behind the packet
+-- stay.
 use Prim.Native.Nat.{ℕ, zero, suc, _-_}
 use mathlib.Core.Bool.{Bool, true, false, cond, not}
 use mathlib.Core.List.{List}

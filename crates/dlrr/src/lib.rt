@@ -1,5 +1,6 @@
 // The clock echoes of a DLRR block, into three lent lists, in both readings (RFC 3611, 4.5).
-// Port of: dlrr.rs DelaySinceLastReceiverReport::block_iter; differs: the standard reading takes the block's own entries, whatever their number.
+// Port of: dlrr.rs DelaySinceLastReceiverReport::block_iter; differs: the standard reading takes the block's own
+// entries, whatever their number.
 ghost use mathlib.Core.Path.{_≡_};
 ghost use mathlib.Core.List.{_++_, map};
 ghost use Prim.Native.Nat.{_+_, _*_, _-_, _/_, _≤_, _<_, min};
@@ -43,7 +44,8 @@ pub fn count(v: &[u8]) -> usize
 fn store(v: &[u8], n: usize, ssrcs: &mut [u32], lasts: &mut [u32], delays: &mut [u32])
     requires { ⌜ n ≡ length (entriesOf (now v)) ⌝ }
     requires { ⌜ n ≤ least3 (now ssrcs) (now lasts) (now delays) ⌝ }
-    ensures { λ _. ⌜ Stored (entriesOf (now (v .entry))) (now (ssrcs .entry)) (now (lasts .entry)) (now (delays .entry)) (now (ssrcs .exit)) (now (lasts .exit)) (now (delays .exit)) ⌝ }
+    ensures { λ _. ⌜ Stored (entriesOf (now (v .entry))) (now (ssrcs .entry)) (now (lasts .entry))
+        (now (delays .entry)) (now (ssrcs .exit)) (now (lasts .exit)) (now (delays .exit)) ⌝ }
 {
     let mut i: usize = 0;
     let mut at: usize = 4;
@@ -67,7 +69,8 @@ pub fn entries(
     lasts: &mut [u32],
     delays: &mut [u32],
 ) -> Answer
-    ensures { λ a. ⌜ ListedEntries (entriesShown r (now (v .entry))) (now (ssrcs .entry)) (now (lasts .entry)) (now (delays .entry)) a (now (ssrcs .exit)) (now (lasts .exit)) (now (delays .exit)) ⌝ }
+    ensures { λ a. ⌜ ListedEntries (entriesShown r (now (v .entry))) (now (ssrcs .entry)) (now (lasts .entry))
+        (now (delays .entry)) a (now (ssrcs .exit)) (now (lasts .exit)) (now (delays .exit)) ⌝ }
 {
     match block::check(r, Kind::Echoes, v) {
         Checked::Fine => {
@@ -92,7 +95,8 @@ pub fn entries_in(
     lasts: &mut [u32],
     delays: &mut [u32],
 ) -> Answer
-    ensures { λ a. ⌜ ListedEntries (entriesAsked r (now (s .entry)) k) (now (ssrcs .entry)) (now (lasts .entry)) (now (delays .entry)) a (now (ssrcs .exit)) (now (lasts .exit)) (now (delays .exit)) ⌝ }
+    ensures { λ a. ⌜ ListedEntries (entriesAsked r (now (s .entry)) k) (now (ssrcs .entry)) (now (lasts .entry))
+        (now (delays .entry)) a (now (ssrcs .exit)) (now (lasts .exit)) (now (delays .exit)) ⌝ }
 {
     match xr::locate(r, s, k) {
         Located::At(at, n) => entries(r, utils::part(s, at, n), ssrcs, lasts, delays),

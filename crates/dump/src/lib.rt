@@ -1,7 +1,8 @@
 // Both readings of a packet as text (RULES, "Views, cursors and the dump").
-// The text goes through a lent buffer to standard output, as print's functions do. These functions promise only that their answer is within the
-// buffer (docs/PROMISES.md, "Exceptions"). A list is filled where it is shown: into few items, and where these are too few, into as many as are
-// shown of one list at most, so that a short list does not cost what a long one does.
+// The text goes through a lent buffer to standard output, as print's functions do. These functions promise only that
+// their answer is within the buffer (docs/PROMISES.md, "Exceptions"). A list is filled where it is shown: into few
+// items, and where these are too few, into as many as are shown of one list at most, so that a short list does not
+// cost what a long one does.
 ghost use Prim.Native.Nat.{_≤_};
 ghost use lib.ListN.{length};
 use def_refusals::Answer;

@@ -1,5 +1,6 @@
-// The lines that the dump and xrprobe print (RULES, "Views, cursors and the dump"; README, "xrprobe"). The text goes through a lent buffer to standard
-// output, as print's functions do. These functions promise only that their answer is within the buffer (docs/PROMISES.md, "Exceptions").
+// The lines that the dump and xrprobe print (RULES, "Views, cursors and the dump"; README, "xrprobe"). The text goes
+// through a lent buffer to standard output, as print's functions do. These functions promise only that their answer
+// is within the buffer (docs/PROMISES.md, "Exceptions").
 ghost use Prim.Native.Nat.{_≤_};
 ghost use lib.ListN.{length};
 use def_cursor::Cursor;

@@ -1,5 +1,7 @@
-// The receipt times of a type 3 block with their sequence numbers, into two lent lists, in both readings (RFC 3611, 4.3).
-// Port of: packet_receipt_time.rs PacketReceiptTimes::sequence_iter; differs: the standard reading takes the block's own times.
+// The receipt times of a type 3 block with their sequence numbers, into two lent lists, in both readings (RFC 3611,
+// 4.3).
+// Port of: packet_receipt_time.rs PacketReceiptTimes::sequence_iter; differs: the standard reading takes the block's
+// own times.
 ghost use mathlib.Core.Path.{_≡_};
 ghost use Prim.Native.Nat.{_+_, _*_, _-_, _/_, _≤_, _<_, _%_, min};
 ghost use lib.ListN.{length, drop};
@@ -51,7 +53,8 @@ fn listable_of(r: Reading, f: Fields) -> usize
 fn store(v: &[u8], first: u16, step: u16, n: usize, numbers: &mut [u16], times: &mut [u32])
     requires { ⌜ n ≤ length (words32 (drop 12 (now v))) ⌝ }
     requires { ⌜ n ≤ min (length (now numbers)) (length (now times)) ⌝ }
-    ensures { λ _. ⌜ Stored (stepped step first n (words32 (drop 12 (now (v .entry))))) (now (numbers .entry)) (now (times .entry)) (now (numbers .exit)) (now (times .exit)) ⌝ }
+    ensures { λ _. ⌜ Stored (stepped step first n (words32 (drop 12 (now (v .entry))))) (now (numbers .entry))
+        (now (times .entry)) (now (numbers .exit)) (now (times .exit)) ⌝ }
 {
     let mut i: usize = 0;
     let mut at: usize = 12;
@@ -68,7 +71,8 @@ fn store(v: &[u8], first: u16, step: u16, n: usize, numbers: &mut [u16], times: 
 
 // The pairs of a block's view: 10, 7, 11.
 pub fn pairs(r: Reading, v: &[u8], numbers: &mut [u16], times: &mut [u32]) -> Answer
-    ensures { λ a. ⌜ ListedPairs (pairsShown r (now (v .entry))) (now (numbers .entry)) (now (times .entry)) a (now (numbers .exit)) (now (times .exit)) ⌝ }
+    ensures { λ a. ⌜ ListedPairs (pairsShown r (now (v .entry))) (now (numbers .entry)) (now (times .entry)) a
+        (now (numbers .exit)) (now (times .exit)) ⌝ }
 {
     match block::check(r, Kind::Spans(Ranged::Times), v) {
         Checked::Fine => {
@@ -89,7 +93,8 @@ pub fn pairs(r: Reading, v: &[u8], numbers: &mut [u16], times: &mut [u32]) -> An
 
 // The pairs of block k of a packet: 1 to 6, 9, 10, 7, 11.
 pub fn pairs_in(r: Reading, s: &[u8], k: usize, numbers: &mut [u16], times: &mut [u32]) -> Answer
-    ensures { λ a. ⌜ ListedPairs (pairsAsked r (now (s .entry)) k) (now (numbers .entry)) (now (times .entry)) a (now (numbers .exit)) (now (times .exit)) ⌝ }
+    ensures { λ a. ⌜ ListedPairs (pairsAsked r (now (s .entry)) k) (now (numbers .entry)) (now (times .entry)) a
+        (now (numbers .exit)) (now (times .exit)) ⌝ }
 {
     match xr::locate(r, s, k) {
         Located::At(at, n) => pairs(r, utils::part(s, at, n), numbers, times),

@@ -1,6 +1,6 @@
 // Text for standard output, through a lent buffer: a full buffer is written out, and the text goes on from its start.
-// `at` is how many bytes of the buffer wait; each function answers the new `at`. No contract can say what is written to a file
-// descriptor, so these promise only that the answer is within the buffer (docs/PROMISES.md, "Exceptions").
+// `at` is how many bytes of the buffer wait; each function answers the new `at`. No contract can say what is written
+// to a file descriptor, so these promise only that the answer is within the buffer (docs/PROMISES.md, "Exceptions").
 ghost use Prim.Native.Nat.{_≤_};
 ghost use lib.ListN.{length};
 use libc::STDOUT_FILENO;

@@ -1,6 +1,7 @@
-// The block records, each with its type number as a constant of its type and a constructor beside it, and the kind of a type number: what every
-// crate that speaks of a block's type takes it from. Port of: the BLOCK_TYPE constants of loss_rle.rs, duplicate_rle.rs,
-// packet_receipt_time.rs, receiver_reference_time.rs, dlrr.rs; differs: the trait with a constant is a constant of each record.
+// The block records, each with its type number as a constant of its type and a constructor beside it, and the kind of
+// a type number: what every crate that speaks of a block's type takes it from. Port of: the BLOCK_TYPE constants of
+// loss_rle.rs, duplicate_rle.rs, packet_receipt_time.rs, receiver_reference_time.rs, dlrr.rs; differs: the trait with
+// a constant is a constant of each record.
 ghost use mathlib.Core.Path.{_≡_};
 ghost use Rattle.def_wire.specs.Block.{rleType, rangedType, kindType, rleOf, rangedOf, kindOf};
 use def_wire::Fields;

@@ -1,5 +1,5 @@
-// The numbers and the chunk words of loss and duplicate blocks (RFC 3611, 4.1 and 4.2), in both readings, from the bytes of the words.
-// Which bytes those are, and the checks before, are the callers'.
+// The numbers and the chunk words of loss and duplicate blocks (RFC 3611, 4.1 and 4.2), in both readings, from the
+// bytes of the words. Which bytes those are, and the checks before, are the callers'.
 mod list;
 mod word;
 
@@ -20,8 +20,9 @@ use def_standard::Range;
 // The crate reading's functions read no more bytes than the longest packet has.
 const LONGEST: usize = 262144;
 
-// How many numbers the words list. One pass over the words, by arithmetic, up to the range's end (RFC 3611, 4.1; RULES, "Standard
-// reading"). Port of: rle.rs Rle::sequence_iter and its count; differs: the standard reading, and no walk over positions.
+// How many numbers the words list. One pass over the words, by arithmetic, up to the range's end (RFC 3611, 4.1;
+// RULES, "Standard reading"). Port of: rle.rs Rle::sequence_iter and its count; differs: the standard reading, and no
+// walk over positions.
 pub fn count_standard(bytes: &[u8], g: Range) -> usize
     ensures { λ r. ⌜ r ≡ length (numbersOf g (words16 (now (bytes .entry)))) ⌝ }
 {
@@ -43,7 +44,8 @@ pub fn count_standard(bytes: &[u8], g: Range) -> usize
 
 // Lists the numbers, or 11 with the room needed and the room lent, nothing written. Port of: rle.rs Rle::sequence_iter.
 pub fn fill_standard(bytes: &[u8], g: Range, out: &mut [u16]) -> Answer
-    ensures { λ r. ⌜ Listed (shown (numbersOf g (words16 (now (bytes .entry))))) (now (out .entry)) r (now (out .exit)) ⌝ }
+    ensures { λ r. ⌜ Listed (shown (numbersOf g (words16 (now (bytes .entry))))) (now (out .entry)) r
+        (now (out .exit)) ⌝ }
 {
     if out.len() < range::inside_count(g) {
         let need = count_standard(bytes, g);
@@ -54,8 +56,9 @@ pub fn fill_standard(bytes: &[u8], g: Range, out: &mut [u16]) -> Answer
     Answer::Done(list::list_standard(bytes, g, out))
 }
 
-// How many numbers the crate lists, of at most the first 262,144 bytes: a longer slice is no part of a packet, and its count need not fit.
-// One pass over the words. Port of: rle.rs Rle::sequence_iter and its count; differs: no walk over positions.
+// How many numbers the crate lists, of at most the first 262,144 bytes: a longer slice is no part of a packet, and
+// its count need not fit. One pass over the words. Port of: rle.rs Rle::sequence_iter and its count; differs: no walk
+// over positions.
 pub fn count_crate(bytes: &[u8], end: u16, thinning: u8, begin: u16) -> usize
     ensures { λ r. ⌜ r ≡ length (crateNumbersFrom end thinning begin (words16 (take longest (now (bytes .entry))))) ⌝ }
 {
@@ -65,7 +68,8 @@ pub fn count_crate(bytes: &[u8], end: u16, thinning: u8, begin: u16) -> usize
 
 // Lists the crate's numbers, up to the first that fails, or 11. Port of: rle.rs Rle::sequence_iter.
 pub fn fill_crate(bytes: &[u8], end: u16, thinning: u8, begin: u16, out: &mut [u16]) -> Answer
-    ensures { λ r. ⌜ Listed (shown (crateNumbersFrom end thinning begin (words16 (take longest (now (bytes .entry)))))) (now (out .entry)) r (now (out .exit)) ⌝ }
+    ensures { λ r. ⌜ Listed (shown (crateNumbersFrom end thinning begin
+        (words16 (take longest (now (bytes .entry)))))) (now (out .entry)) r (now (out .exit)) ⌝ }
 {
     let size = utils::lesser(LONGEST, bytes.len());
     let part = &bytes[..size];
@@ -82,8 +86,8 @@ pub fn fill_crate(bytes: &[u8], end: u16, thinning: u8, begin: u16, out: &mut [u
     Answer::Done(list::list_crate(part, end, thinning, begin, out))
 }
 
-// Stores the numbers of the ones among some places of a word, from a place on and one step apart, where there is room for all of them;
-// else nothing. Answers the index past those stored. (The cursor stops and goes on inside a word.)
+// Stores the numbers of the ones among some places of a word, from a place on and one step apart, where there is room
+// for all of them; else nothing. Answers the index past those stored. (The cursor stops and goes on inside a word.)
 pub fn put_places(
     out: &mut [u16],
     at: usize,
@@ -93,7 +97,9 @@ pub fn put_places(
     first: u16,
     step: u16,
 ) -> usize
-    ensures { λ r. ⌜ Wrote (now (out .entry)) at (fitting (length (now (out .entry))) at (along step first (take room (drop place (valuesIn w))))) (now (out .exit)) r ⌝ }
+    ensures { λ r. ⌜ Wrote (now (out .entry)) at
+        (fitting (length (now (out .entry))) at (along step first (take room (drop place (valuesIn w)))))
+        (now (out .exit)) r ⌝ }
 {
     let rest = word::rest_of(w, place);
     if out.len() < at {
@@ -112,7 +118,8 @@ pub fn count_words(bytes: &[u8]) -> usize
     bytes.len() / 2
 }
 
-// Lists the chunk words themselves, or 11. Port of: rle.rs Rle::chunk_iter; differs: words, not kinds (chunk::chunk_of gives a word's kind).
+// Lists the chunk words themselves, or 11. Port of: rle.rs Rle::chunk_iter; differs: words, not kinds
+// (chunk::chunk_of gives a word's kind).
 pub fn fill_words(bytes: &[u8], out: &mut [u16]) -> Answer
     ensures { λ r. ⌜ Listed (shown (words16 (now (bytes .entry)))) (now (out .entry)) r (now (out .exit)) ⌝ }
 {

@@ -14,7 +14,8 @@ ghost use Rattle.range.specs.Failing.{firstFail};
 ghost use Rattle.rle.specs.Runs.{here, Ran};
 use def_standard::Range;
 
-// Lists the numbers into a slice that has room for them. Port of: rle.rs RleSequenceIter::next; differs: the standard reading.
+// Lists the numbers into a slice that has room for them. Port of: rle.rs RleSequenceIter::next; differs: the standard
+// reading.
 pub(crate) fn list_standard(bytes: &[u8], g: Range, out: &mut [u16]) -> usize
     requires { ⌜ length (numbersOf g (words16 (now bytes))) ≤ length (now out) ⌝ }
     ensures { λ r. ⌜ Filled (numbersOf g (words16 (now (bytes .entry)))) (now (out .entry)) r (now (out .exit)) ⌝ }
@@ -81,7 +82,8 @@ pub(crate) fn tally_crate(bytes: &[u8], end: u16, thinning: u8, begin: u16) -> u
     n
 }
 
-// Where the crate's list stands: bytes of the words read, numbers stored, the start as moved so far, and the first place from there that fails.
+// Where the crate's list stands: bytes of the words read, numbers stored, the start as moved so far, and the first
+// place from there that fails.
 struct Stand {
     at: usize,
     n: usize,
@@ -115,8 +117,11 @@ fn list_runs(
     last: usize,
     out: &mut [u16],
 ) -> Stand
-    requires { ⌜ (last ≡ length (now bytes) - 1) × (from ≤ length (now bytes)) × (clear ≡ firstFail begin end thinning) × (step ≡ stepOf thinning) × (stored + length (here end thinning (now bytes) from begin) ≤ length (now out)) ⌝ }
-    ensures { λ r. ⌜ Ran end thinning (now (bytes .entry)) from begin (now (out .entry)) stored (r .at) (r .start) (r .first) (now (out .exit)) (r .n) ⌝ }
+    requires { ⌜ (last ≡ length (now bytes) - 1) × (from ≤ length (now bytes)) ×
+        (clear ≡ firstFail begin end thinning) × (step ≡ stepOf thinning) ×
+        (stored + length (here end thinning (now bytes) from begin) ≤ length (now out)) ⌝ }
+    ensures { λ r. ⌜ Ran end thinning (now (bytes .entry)) from begin (now (out .entry)) stored (r .at) (r .start)
+        (r .first) (now (out .exit)) (r .n) ⌝ }
 {
     let mut at = from;
     let mut n = stored;
@@ -161,7 +166,8 @@ fn last_of(bytes: &[u8]) -> usize
 // The crate's numbers, up to the first that fails. Port of: rle.rs RleSequenceIter::next.
 pub(crate) fn list_crate(bytes: &[u8], end: u16, thinning: u8, begin: u16, out: &mut [u16]) -> usize
     requires { ⌜ length (crateNumbersFrom end thinning begin (words16 (now bytes))) ≤ length (now out) ⌝ }
-    ensures { λ r. ⌜ Filled (crateNumbersFrom end thinning begin (words16 (now (bytes .entry)))) (now (out .entry)) r (now (out .exit)) ⌝ }
+    ensures { λ r. ⌜ Filled (crateNumbersFrom end thinning begin (words16 (now (bytes .entry)))) (now (out .entry)) r
+        (now (out .exit)) ⌝ }
 {
     let step = range::doubled(1, thinning);
     let last = last_of(bytes);

@@ -82,7 +82,8 @@ pub(crate) fn store_run(out: &mut [u16], at: usize, count: usize, first: u16, st
 
 // Stores the numbers of a vector's ones, up to a place: one turn for each, from the highest bit down.
 fn store_vector(out: &mut [u16], at: usize, w: u16, room: usize, first: u16, step: u16) -> usize
-    requires { ⌜ (32768 ≤ w) × (room ≤ 15) × (at + length (along step first (take room (valuesIn w))) ≤ length (now out)) ⌝ }
+    requires { ⌜ (32768 ≤ w) × (room ≤ 15) × (at + length (along step first (take room (valuesIn w))) ≤ length
+        (now out)) ⌝ }
     ensures { λ r. ⌜ Wrote (now (out .entry)) at (along step first (take room (valuesIn w))) (now (out .exit)) r ⌝ }
 {
     let mut v = (chunk::vector_bits(w) as u32) >> (15 - room);
@@ -120,7 +121,8 @@ pub(crate) fn store_word(
 }
 
 // The place of a vector's first one that fails; 15 where none does.
-// Port of: rle.rs RleSequenceIter::next with xr_offset_sequence; differs: it gives the place, not the numbers before it.
+// Port of: rle.rs RleSequenceIter::next with xr_offset_sequence; differs: it gives the place, not the numbers before
+// it.
 fn stop_in_vector(w: u16, start: u16, end: u16, thinning: u8) -> usize
     requires { ⌜ 32768 ≤ w ⌝ }
     ensures { λ r. ⌜ r ≡ stopAt start end thinning w ⌝ }
@@ -137,8 +139,8 @@ fn stop_in_vector(w: u16, start: u16, end: u16, thinning: u8) -> usize
     15
 }
 
-// The place of a word's first one whose number fails the crate's test; how many places it has where none does. `first` is the first place
-// that fails, whatever its value.
+// The place of a word's first one whose number fails the crate's test; how many places it has where none does.
+// `first` is the first place that fails, whatever its value.
 pub(crate) fn stop_at(w: u16, first: usize, start: u16, end: u16, thinning: u8) -> usize
     requires { ⌜ first ≡ firstFail start end thinning ⌝ }
     ensures { λ r. ⌜ r ≡ stopAt start end thinning w ⌝ }

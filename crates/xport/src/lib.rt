@@ -1,5 +1,5 @@
-// The reading questions, for Rust and C: each takes numbers and slices and answers numbers. A slice is a pointer and a length.
-// A reading is a number: 0 the standard, anything else the crate's. A packet's blocks are counted from 0.
+// The reading questions, for Rust and C: each takes numbers and slices and answers numbers. A slice is a pointer and
+// a length. A reading is a number: 0 the standard, anything else the crate's. A packet's blocks are counted from 0.
 ghost use mathlib.Core.Path.{_≡_};
 ghost use Rattle.def_refusals.specs.Answers.{Listed};
 ghost use Rattle.def_wire.specs.Packet.{countOf, locate};
@@ -7,7 +7,8 @@ ghost use Rattle.def_standard.specs.Chunks.{wordBytes};
 ghost use Rattle.def_cursor.specs.Cursor.{cursor as here};
 ghost use Rattle.def_questions.specs.Packets.{timeAsked, pairsAsked, entriesAsked};
 ghost use Rattle.def_questions.specs.ByNumber.{fieldsBy, numbersBy, numbersViewBy, wordsBy};
-ghost use Rattle.xport.specs.Flat.{readingOf, flatRefusal, flatOf, flatLocated, flatFields, flatTime, flatStretch, chunkAsked, FlatListed, FlatPairs, FlatEntries, FlatStretched};
+ghost use Rattle.xport.specs.Flat.{readingOf, flatRefusal, flatOf, flatLocated, flatFields, flatTime, flatStretch, chunkAsked};
+ghost use Rattle.xport.specs.Flat.{FlatListed, FlatPairs, FlatEntries, FlatStretched};
 use def_cursor::Advanced;
 use def_cursor::Cursor;
 use def_refusals::Answer;
@@ -39,7 +40,8 @@ pub struct FlatFields {
     pub thinning: u8,
 }
 
-// The same with where a number cursor stands next, how many steps it took and how many numbers it listed, 0 where it is refused.
+// The same with where a number cursor stands next, how many steps it took and how many numbers it listed, 0 where it
+// is refused.
 #[repr(C)]
 pub struct FlatStretch {
     pub code: u32,
@@ -223,7 +225,8 @@ pub extern "C" fn xr_time(r: u8, packet: &[u8], k: usize) -> Flat
 // The numbers of block k, asked as type t (1 or 2): 1 to 6, 9, 10, 7, 11. What the header refuses comes out at once.
 #[no_mangle]
 pub extern "C" fn xr_numbers(r: u8, packet: &[u8], k: usize, t: u8, out: &mut [u16]) -> Flat
-    ensures { λ a. ⌜ FlatListed (numbersBy (readingOf r) (now (packet .entry)) k t) (now (out .entry)) a (now (out .exit)) ⌝ }
+    ensures { λ a. ⌜ FlatListed (numbersBy (readingOf r) (now (packet .entry)) k t) (now (out .entry)) a
+        (now (out .exit)) ⌝ }
 {
     let q = reading(r);
     match xr::header(q, packet) {
@@ -235,7 +238,8 @@ pub extern "C" fn xr_numbers(r: u8, packet: &[u8], k: usize, t: u8, out: &mut [u
 // The numbers of a block's view, as xr_locate says where it lies: 10, 7, 11.
 #[no_mangle]
 pub extern "C" fn xr_numbers_view(r: u8, t: u8, view: &[u8], out: &mut [u16]) -> Flat
-    ensures { λ a. ⌜ FlatListed (numbersViewBy (readingOf r) t (now (view .entry))) (now (out .entry)) a (now (out .exit)) ⌝ }
+    ensures { λ a. ⌜ FlatListed (numbersViewBy (readingOf r) t (now (view .entry))) (now (out .entry)) a
+        (now (out .exit)) ⌝ }
 {
     answer(by_number::numbers_view(reading(r), t, view, out))
 }
@@ -243,7 +247,8 @@ pub extern "C" fn xr_numbers_view(r: u8, t: u8, view: &[u8], out: &mut [u16]) ->
 // The chunk words of block k, asked as type t: 1 to 6, 9, 10, 7, 11.
 #[no_mangle]
 pub extern "C" fn xr_words(r: u8, packet: &[u8], k: usize, t: u8, out: &mut [u16]) -> Flat
-    ensures { λ a. ⌜ FlatListed (wordsBy (readingOf r) (now (packet .entry)) k t) (now (out .entry)) a (now (out .exit)) ⌝ }
+    ensures { λ a. ⌜ FlatListed (wordsBy (readingOf r) (now (packet .entry)) k t) (now (out .entry)) a
+        (now (out .exit)) ⌝ }
 {
     answer(by_number::words(reading(r), packet, k, t, out))
 }
@@ -257,7 +262,8 @@ pub extern "C" fn xr_pairs(
     numbers: &mut [u16],
     times: &mut [u32],
 ) -> Flat
-    ensures { λ a. ⌜ FlatPairs (pairsAsked (readingOf r) (now (packet .entry)) k) (now (numbers .entry)) (now (times .entry)) a (now (numbers .exit)) (now (times .exit)) ⌝ }
+    ensures { λ a. ⌜ FlatPairs (pairsAsked (readingOf r) (now (packet .entry)) k) (now (numbers .entry))
+        (now (times .entry)) a (now (numbers .exit)) (now (times .exit)) ⌝ }
 {
     answer(packet_receipt_time::pairs_in(reading(r), packet, k, numbers, times))
 }
@@ -272,7 +278,8 @@ pub extern "C" fn xr_entries(
     lasts: &mut [u32],
     delays: &mut [u32],
 ) -> Flat
-    ensures { λ a. ⌜ FlatEntries (entriesAsked (readingOf r) (now (packet .entry)) k) (now (ssrcs .entry)) (now (lasts .entry)) (now (delays .entry)) a (now (ssrcs .exit)) (now (lasts .exit)) (now (delays .exit)) ⌝ }
+    ensures { λ a. ⌜ FlatEntries (entriesAsked (readingOf r) (now (packet .entry)) k) (now (ssrcs .entry))
+        (now (lasts .entry)) (now (delays .entry)) a (now (ssrcs .exit)) (now (lasts .exit)) (now (delays .exit)) ⌝ }
 {
     answer(dlrr::entries_in(reading(r), packet, k, ssrcs, lasts, delays))
 }
@@ -297,7 +304,8 @@ pub extern "C" fn xr_cursor(
     budget: usize,
     out: &mut [u16],
 ) -> FlatStretch
-    ensures { λ a. ⌜ FlatStretched (now (packet .entry)) k t (here word place position) budget (now (out .entry)) a (now (out .exit)) ⌝ }
+    ensures { λ a. ⌜ FlatStretched (now (packet .entry)) k t (here word place position) budget (now (out .entry)) a
+        (now (out .exit)) ⌝ }
 {
     let c = Cursor {
         word,

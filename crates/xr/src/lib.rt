@@ -3,7 +3,8 @@
 ghost use mathlib.Core.Path.{_≡_};
 ghost use Prim.Native.Nat.{_+_, _*_, _-_, _%_, _≤_, _<_};
 ghost use lib.ListN.{length, getD};
-ghost use Rattle.def_wire.specs.Packet.{leastOf, isBadPadding, headerOf, lengthAt, walkFrom, countOf, sizeAt, locate, partAt, bytesAt};
+ghost use Rattle.def_wire.specs.Packet.{leastOf, isBadPadding, headerOf, lengthAt, walkFrom, countOf};
+ghost use Rattle.def_wire.specs.Packet.{sizeAt, locate, partAt, bytesAt};
 ghost use Rattle.def_wire.specs.Block.{headerData};
 ghost use Rattle.xr.specs.Parsed.{parsedOf};
 ghost use Rattle.xr.specs.Walks.{Walking, Reach, Walk, found};
@@ -39,7 +40,8 @@ impl Xr {
     // The standard reading's: header and sender SSRC, and no blocks.
     pub const LEAST_LEN: usize = 8;
 
-    // The packet, where 1 to 6 do not apply. Port of: Xr::parse; differs: the reading is asked, and padding is judged in full.
+    // The packet, where 1 to 6 do not apply. Port of: Xr::parse; differs: the reading is asked, and padding is judged
+    // in full.
     pub fn parse(r: Reading, s: &[u8]) -> Parsed
         ensures { λ a. ⌜ a ≡ parsedOf r (now (s .entry)) ⌝ }
     {
@@ -72,7 +74,8 @@ fn length_at(s: &[u8], at: usize) -> usize
     length_of(s[i], s[i + 1])
 }
 
-// The length that a length field's two bytes say (RFC 3611, 2 and 3): the length in 32-bit words less one. The one place that computes it.
+// The length that a length field's two bytes say (RFC 3611, 2 and 3): the length in 32-bit words less one. The one
+// place that computes it.
 fn length_of(hi: u8, lo: u8) -> usize
     ensures { λ a. ⌜ (a ≡ (hi * 256 + lo + 1) * 4) × (a ≤ 262144) ⌝ }
 {
@@ -220,7 +223,8 @@ pub fn count(r: Reading, s: &[u8]) -> Answer
     }
 }
 
-// Where block k's view lies among the blocks up to where the header says that they end, or 6 or 9. Port of: XrBlockIter::next.
+// Where block k's view lies among the blocks up to where the header says that they end, or 6 or 9. Port of:
+// XrBlockIter::next.
 fn find(r: Reading, s: &[u8], stop: usize, k: usize) -> Located
     requires { ⌜ (stop ≤ length (now s)) × (stop % 4 ≡ 0) × (8 ≤ stop) ⌝ }
     ensures { λ a. ⌜ a ≡ found r (now (s .entry)) stop k ⌝ }

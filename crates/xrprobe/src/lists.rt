@@ -1,4 +1,5 @@
-// The kinds of request that list into lent memory: a list that is lent, or, of pairs and entries, lists of the request's own.
+// The kinds of request that list into lent memory: a list that is lent, or, of pairs and entries, lists of the
+// request's own.
 use crate::ask;
 use crate::ask::Told;
 use crate::lent;

@@ -1,7 +1,7 @@
-// Opens the public functions to a test from outside. Standard input is a run of requests, each one byte of kind, four bytes of length
-// (little-endian, at most 300,000) and the payload; each answer is text lines and then a line with a single `.`. README.md, "xrprobe",
-// lists the kinds. Memory is lent with a pattern in it, and a line `spoilt` is added where anything behind the stored items, or
-// anything at all after a refusal, has changed.
+// Opens the public functions to a test from outside. Standard input is a run of requests, each one byte of kind, four
+// bytes of length (little-endian, at most 300,000) and the payload; each answer is text lines and then a line with a
+// single `.`. README.md, "xrprobe", lists the kinds. Memory is lent with a pattern in it, and a line `spoilt` is
+// added where anything behind the stored items, or anything at all after a refusal, has changed.
 mod ask;
 mod lent;
 mod lists;

@@ -49,7 +49,8 @@ add-at c = let t = c .before .before in
     omega (
       arith,
       whole (a .v .now) (a .first) (a .step) (a .n) (a .numbers .now) (a .times .now) (b .pre .0)
-          (l .loop .numbers) (l .loop .times) (l .loop .i) (l .loop .at) (l .loop .x) (l .loop .inv) (t .loop-test .taken),
+          (l .loop .numbers) (l .loop .times) (l .loop .i) (l .loop .at) (l .loop .x) (l .loop .inv)
+          (t .loop-test .taken),
     )
 
 loop-again : tie.Need-loop-again Inv-loop μ-loop
