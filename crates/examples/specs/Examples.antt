@@ -1,4 +1,4 @@
--- Document 01, "Twelve examples to prove together": one statement covers the list. proofs/Twelve.antt proves it by
+-- RULES, "Twelve examples to prove together": one statement covers the list. proofs/Twelve.antt proves it by
 -- computation.
 use Prim.Native.Nat.{ℕ}
 use mathlib.Core.Path.{_≡_}

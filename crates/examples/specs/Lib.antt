@@ -1,4 +1,4 @@
--- Document 01's twelve examples, and worked facts for each clause of the definitions: each boundary and one past it,
+-- The twelve examples of RULES, and worked facts for each clause of the definitions: each boundary and one past it,
 -- each value that goes with a refusal, each order where two apply. proofs/ proves them, under the same file names.
 -- Read in this order: Vectors (packets and job lists, a 32-bit word to a row), Examples (what is claimed of them),
 -- Rows (how the other files write bytes), then those of each definition crate: Refusals; Wire, WireWalk, WireBlock;

@@ -2,28 +2,14 @@
 ghost use Prim.Native.Nat.{_<_};
 ghost use mathlib.Core.Path.{_≡_};
 use crate::lent;
-use crate::lists;
 use def_refusals::Answer;
 use def_standard::Chunk;
 use def_wire::FieldsOr;
 use def_wire::Located;
 use def_wire::Reading;
 use def_wire::TimeOr;
+use probe::Told;
 use xr::Parsed;
-
-// What waits in the buffer, and whether the request was one that is served.
-pub struct Told {
-    pub at: usize,
-    pub served: bool,
-}
-
-pub fn unserved(at: usize) -> Told {
-    Told { at, served: false }
-}
-
-pub fn served(at: usize) -> Told {
-    Told { at, served: true }
-}
 
 fn wide(x: u8) -> usize
     ensures { λ r. ⌜ r < 256 ⌝ }
@@ -34,28 +20,6 @@ fn wide(x: u8) -> usize
 // The length in a request's five head bytes, little-endian.
 pub fn length_of(head: [u8; 5]) -> usize {
     wide(head[1]) + 256 * (wide(head[2]) + 256 * (wide(head[3]) + 256 * wide(head[4])))
-}
-
-// A little-endian number of four bytes in a payload.
-pub fn number(p: &[u8], at: usize) -> usize
-    ensures { λ r. ⌜ r < 4294967296 ⌝ }
-{
-    if p.len() < 4 {
-        return 0;
-    }
-    if p.len() - 4 < at {
-        return 0;
-    }
-    wide(p[at]) + 256 * (wide(p[at + 1]) + 256 * (wide(p[at + 2]) + 256 * wide(p[at + 3])))
-}
-
-// Which reading a byte below 2 asks.
-pub fn reading(b: u8) -> Reading {
-    if b == 0 {
-        Reading::Standard
-    } else {
-        Reading::Crate
-    }
 }
 
 fn fields(s: &[u8], r: Reading, k: usize, t: u8, buf: &mut [u8], at: usize) -> usize {
@@ -75,31 +39,31 @@ fn time(s: &[u8], r: Reading, k: usize, buf: &mut [u8], at: usize) -> usize {
 // Kind 3: reading, block, asked type (4 asks the time, any other the fields), packet.
 fn shown(p: &[u8], buf: &mut [u8], at: usize) -> Told {
     if p.len() < 6 {
-        return unserved(at);
+        return probe::unserved(at);
     }
     let which = p[0];
     let t = p[5];
     if 1 < which {
-        return unserved(at);
+        return probe::unserved(at);
     }
-    let r = reading(which);
-    let k = number(p, 1);
+    let r = probe::reading(which);
+    let k = probe::number(p, 1);
     let s = &p[6..];
     if t == 4 {
-        return served(time(s, r, k, buf, at));
+        return probe::served(time(s, r, k, buf, at));
     }
-    served(fields(s, r, k, t, buf, at))
+    probe::served(fields(s, r, k, t, buf, at))
 }
 
 fn tell_word(buf: &mut [u8], at: usize, out: &[u8], a: Answer) -> usize {
     match a {
         Answer::Done(n) => {
             let m = lines::word_line(buf, at, utils::byte_at(out, 0), utils::byte_at(out, 1));
-            lent::told(buf, m, lent::stands8(out, n))
+            probe::said_whole(buf, m, lent::stands8(out, n))
         }
         Answer::Refused(x) => {
             let m = lines::refusal_line(buf, at, x);
-            lent::told(buf, m, lent::stands8(out, 0))
+            probe::said_whole(buf, m, lent::stands8(out, 0))
         }
     }
 }
@@ -122,30 +86,30 @@ fn chunk_asked(kind: u8, value: u32) -> Chunk {
 // Kind 7: kind of word (0 to 3), value, room, and nothing behind.
 fn make(p: &[u8], buf: &mut [u8], at: usize) -> Told {
     if p.len() != 9 {
-        return unserved(at);
+        return probe::unserved(at);
     }
     let kind = p[0];
     if 3 < kind {
-        return unserved(at);
+        return probe::unserved(at);
     }
-    let value = number(p, 1) as u32;
+    let value = probe::number(p, 1) as u32;
     let mut out = [0u8; 8];
-    let room = utils::lesser(number(p, 5), 8);
-    served(word(chunk_asked(kind, value), buf, at, &mut out[0..room]))
+    let room = utils::lesser(probe::number(p, 5), 8);
+    probe::served(word(chunk_asked(kind, value), buf, at, &mut out[0..room]))
 }
 
 // Kind 8: reading, packet.
 fn parse(p: &[u8], buf: &mut [u8], at: usize) -> Told {
     if p.len() < 1 {
-        return unserved(at);
+        return probe::unserved(at);
     }
     let which = p[0];
     if 1 < which {
-        return unserved(at);
+        return probe::unserved(at);
     }
-    match xr::Xr::parse(reading(which), &p[1..]) {
-        Parsed::Packet(x) => served(lines::blocks_line(buf, at, x.blocks, x.ssrc)),
-        Parsed::Unread(x) => served(lines::refusal_line(buf, at, x)),
+    match xr::Xr::parse(probe::reading(which), &p[1..]) {
+        Parsed::Packet(x) => probe::served(lines::blocks_line(buf, at, x.blocks, x.ssrc)),
+        Parsed::Unread(x) => probe::served(lines::refusal_line(buf, at, x)),
     }
 }
 
@@ -156,30 +120,30 @@ fn viewed(buf: &mut [u8], at: usize, offset: usize, v: &[u8]) -> usize {
 // Kind 11: reading, block, packet.
 fn view(p: &[u8], buf: &mut [u8], at: usize) -> Told {
     if p.len() < 5 {
-        return unserved(at);
+        return probe::unserved(at);
     }
     let which = p[0];
     if 1 < which {
-        return unserved(at);
+        return probe::unserved(at);
     }
-    let r = reading(which);
-    let k = number(p, 1);
+    let r = probe::reading(which);
+    let k = probe::number(p, 1);
     let s = &p[5..];
     match xr::locate(r, s, k) {
-        Located::At(offset, _) => served(viewed(buf, at, offset, xr::view(r, s, k))),
-        Located::Missing(x) => served(lines::refusal_line(buf, at, x)),
+        Located::At(offset, _) => probe::served(viewed(buf, at, offset, xr::view(r, s, k))),
+        Located::Missing(x) => probe::served(lines::refusal_line(buf, at, x)),
     }
 }
 
 // The answer to a request of a kind. `list` is the memory that is lent for 16-bit numbers.
 pub fn answer(kind: u8, p: &[u8], buf: &mut [u8], at: usize, list: &mut [u16]) -> Told {
     match kind {
-        1 => served(dump::dump(p, buf, at)),
+        1 => probe::served(dump::dump(p, buf, at)),
         3 => shown(p, buf, at),
-        4 => lists::stretch(p, buf, at, list),
+        4 => probe::stretch(p, buf, at, list),
         7 => make(p, buf, at),
         8 => parse(p, buf, at),
         11 => view(p, buf, at),
-        _ => lists::any(kind, p, buf, at, list),
+        _ => probe::any(kind, p, buf, at, list),
     }
 }

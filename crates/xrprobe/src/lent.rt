@@ -2,32 +2,8 @@
 ghost use Prim.Native.Nat.{_≤_};
 ghost use lib.ListN.{length};
 
-fn mark16(i: usize) -> u16 {
-    ((i % 65521) * 40503 % 65536) as u16
-}
-
-fn mark32(i: usize) -> u32 {
-    ((i % 65521) * 40503 + 123456789) as u32
-}
-
 fn mark8(i: usize) -> u8 {
     ((i % 251) + 4) as u8
-}
-
-pub fn fill16(list: &mut [u16]) {
-    let mut i: usize = 0;
-    while i < list.len() {
-        list[i] = mark16(i);
-        i += 1;
-    }
-}
-
-pub fn fill32(list: &mut [u32]) {
-    let mut i: usize = 0;
-    while i < list.len() {
-        list[i] = mark32(i);
-        i += 1;
-    }
 }
 
 pub fn fill8(list: &mut [u8]) {
@@ -36,29 +12,6 @@ pub fn fill8(list: &mut [u8]) {
         list[i] = mark8(i);
         i += 1;
     }
-}
-
-// Whether the pattern stands from an index on.
-pub fn stands16(list: &[u16], from: usize) -> bool {
-    let mut i = from;
-    while i < list.len() {
-        if list[i] != mark16(i) {
-            return false;
-        }
-        i += 1;
-    }
-    true
-}
-
-pub fn stands32(list: &[u32], from: usize) -> bool {
-    let mut i = from;
-    while i < list.len() {
-        if list[i] != mark32(i) {
-            return false;
-        }
-        i += 1;
-    }
-    true
 }
 
 pub fn stands8(list: &[u8], from: usize) -> bool {
@@ -70,16 +23,4 @@ pub fn stands8(list: &[u8], from: usize) -> bool {
         i += 1;
     }
     true
-}
-
-pub fn both(a: bool, b: bool) -> bool {
-    if a { b } else { false }
-}
-
-// A line `spoilt`, unless the memory is whole.
-pub fn told(buf: &mut [u8], at: usize, whole: bool) -> usize {
-    if whole {
-        return at;
-    }
-    print::text(buf, at, b"spoilt\n")
 }

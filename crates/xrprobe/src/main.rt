@@ -4,7 +4,6 @@
 // added where anything behind the stored items, or anything at all after a refusal, has changed.
 mod ask;
 mod lent;
-mod lists;
 
 ghost use Prim.Native.Nat.{_≤_};
 ghost use lib.ListN.{length};
@@ -23,7 +22,7 @@ struct Turn {
 }
 
 // A request's answer and its `.`, or the end of the run.
-fn answered(buf: &mut [u8], told: ask::Told) -> Turn {
+fn answered(buf: &mut [u8], told: probe::Told) -> Turn {
     if told.served {
         return Turn {
             at: print::text(buf, told.at, b".\n"),

@@ -1,9 +1,9 @@
--- `xrprobe::stands16` meets its contract: whether the pattern stands from an index on.
+-- `probe::stands16` meets its contract: whether the pattern stands from an index on.
 use borrow.Author.Needs.{needs}
 use Prim.Native.Nat.{_≤_, _-_}
 use lib.ListN.{length}
-use Rattle.xrprobe.proofs.lent.stands16.Statement.{statement}
-use Rattle.xrprobe.proofs.lent.stands16.Tie as tie
+use Rattle.probe.proofs.lent.stands16.Statement.{statement}
+use Rattle.probe.proofs.lent.stands16.Tie as tie
 
 abbrev Inv-loop : tie.InvT-loop
 Inv-loop list from i₀ i = 0 ≤ i

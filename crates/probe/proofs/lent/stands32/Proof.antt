@@ -1,9 +1,9 @@
--- `xrprobe::stands32` meets its contract.
+-- `probe::stands32` meets its contract.
 use borrow.Author.Needs.{needs}
 use Prim.Native.Nat.{_≤_, _-_}
 use lib.ListN.{length}
-use Rattle.xrprobe.proofs.lent.stands32.Statement.{statement}
-use Rattle.xrprobe.proofs.lent.stands32.Tie as tie
+use Rattle.probe.proofs.lent.stands32.Statement.{statement}
+use Rattle.probe.proofs.lent.stands32.Tie as tie
 
 abbrev Inv-loop : tie.InvT-loop
 Inv-loop list from i₀ i = 0 ≤ i
