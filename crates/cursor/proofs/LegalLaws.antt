@@ -43,14 +43,6 @@ module _ (ws : List ℕ) (c : Cursor) where
   legal-place e h = by-test (ltb circle (c .position)) (λ _ z. true≢false z)
       (λ _ z. ltb-true _ _ (simp (lt-ltb _ _ h) at z)) e
 
-  pub legal-word : legal ws c ≡ true → c .word ≤ length ws
-  unfolding legal
-  legal-word =
-      by-test (ltb circle (c .position)) (λ _ e. true≢false e)
-      (λ _. by-test (ltb (c .word) (length ws)) (λ t _. let h : c .word < length ws = ltb-true _ _ t in omega arith)
-      (λ _. by-test (eqb (c .word) (length ws)) (λ t _. let h : c .word ≡ length ws = eqb-true _ _ t in omega arith)
-      (λ _ e. true≢false e)))
-
   -- a place of a word is legal
   pub legal-in : c .position ≤ circle → c .word < length ws → c .place < stepsIn (wordAt ws c) → legal ws c ≡ true
   unfolding legal
