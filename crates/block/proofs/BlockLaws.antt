@@ -20,59 +20,60 @@ use Rattle.def_wire.specs.declared.FieldsOr.the-variants.{Shown, NoneOf}
 use Rattle.def_wire.specs.declared.TimeOr.the-variants.{Time, NoTime}
 use Rattle.def_wire.specs.declared.Located.the-variants.{At, Missing}
 use Rattle.def_wire.specs.Packet.{locate, part}
-use Rattle.def_wire.specs.Block.{typeOf, blockLength, kindType, rule, standardRule, crateRule, fitness, checkOf}
+use Rattle.def_wire.specs.Block.{typeOf, blockLength, rleType, receiptType, clockType, echoType, kindType, rule}
+use Rattle.def_wire.specs.Block.{standardRule, crateRule, fitness, checkOf}
 use Rattle.def_wire.specs.Block.{isCut, fieldsAt, fieldsOf, timeAt, timeOf}
 use Rattle.def_questions.specs.Packets.{fieldsAsked, timeAsked}
 
--- the length rules, kind by kind
-module _ (k : Kind) (l : ℕ) where
-  pub standard-spans : (g : Ranged) → k ≡ Spans g → rule (leb 12 l) 12 l ≡ standardRule k l
-  unfolding standardRule
-  standard-spans g e = rw e
+-- 10
+pub check-other : (r : Reading) (k : Kind) (v : List ℕ) → (typeOf v ≡ kindType k → ⊥)
+    → Unfit (OtherType (typeOf v)) ≡ checkOf r k v
+unfolding checkOf
+check-other r k v n = rw (ne-eqb _ _ n)
 
-  pub standard-clock : k ≡ Clock → rule (eqb l 12) 12 l ≡ standardRule k l
-  unfolding standardRule
-  standard-clock e = rw e
+-- then 7: the length rules of both readings, kind by kind
+module _ (r : Reading) (v : List ℕ) where
+  module _ (a : Rle) (e : typeOf v ≡ rleType a) where
+    pub chunks-standard : r ≡ Standard → rule (leb 12 (length v)) 12 (length v) ≡ checkOf r (Spans (Chunks a)) v
+    unfolding checkOf fitness standardRule
+    chunks-standard q = rw (eq-eqb _ _ e, q)
 
-  pub standard-echoes : k ≡ Echoes → (o : ℕ) → o ≡ l - 4
-      → rule (eqb (o % 12) 0) (l + (12 - o % 12) % 12) l ≡ standardRule k l
-  unfolding standardRule
-  standard-echoes e o q = rw (e, q)
+    pub chunks-crate : (l : ℕ) → l ≡ blockLength v → r ≡ Crate → rule (leb 12 l) 12 l ≡ checkOf r (Spans (Chunks a)) v
+    unfolding checkOf fitness crateRule
+    chunks-crate l h q = rw (eq-eqb _ _ e, q, h)
 
-  module _ (left : ℕ) where
-    pub crate-chunks : (g : Ranged) (a : Rle) → k ≡ Spans g → g ≡ Chunks a → rule (leb 12 l) 12 l ≡ crateRule k l left
-    unfolding crateRule
-    crate-chunks g a e q = rw (e, q)
+  module _ (e : typeOf v ≡ receiptType) where
+    pub times-standard : r ≡ Standard → rule (leb 12 (length v)) 12 (length v) ≡ checkOf r (Spans Times) v
+    unfolding checkOf fitness standardRule
+    times-standard q = rw (eq-eqb _ _ e, q)
 
-    pub crate-times : (g : Ranged) → k ≡ Spans g → g ≡ Times → Fine ≡ crateRule k l left
-    unfolding crateRule
-    crate-times g e q = rw (e, q)
+    pub times-crate : r ≡ Crate → Fine ≡ checkOf r (Spans Times) v
+    unfolding checkOf fitness crateRule
+    times-crate q = rw (eq-eqb _ _ e, q)
 
-    pub crate-clock : k ≡ Clock → rule (leb 12 left) 12 left ≡ crateRule k l left
-    unfolding crateRule
-    crate-clock e = rw e
+  module _ (e : typeOf v ≡ clockType) where
+    pub clock-standard : r ≡ Standard → rule (eqb (length v) 12) 12 (length v) ≡ checkOf r Clock v
+    unfolding checkOf fitness standardRule
+    clock-standard q = rw (eq-eqb _ _ e, q)
 
-    pub crate-echoes : k ≡ Echoes → 16 ≤ left → rule (eqb (l % 16) 0) (l + l % 16) left ≡ crateRule k l left
-    unfolding crateRule
-    crate-echoes e h = rw (e, le-leb _ _ h)
+    pub clock-crate : r ≡ Crate → rule (leb 12 (length v)) 12 (length v) ≡ checkOf r Clock v
+    unfolding checkOf fitness crateRule
+    clock-crate q = rw (eq-eqb _ _ e, q)
 
-    pub crate-echoes-short : k ≡ Echoes → left < 16 → rule false 16 left ≡ crateRule k l left
-    unfolding crateRule
-    crate-echoes-short e h = rw (e, lt-leb _ _ h)
+  module _ (e : typeOf v ≡ echoType) where
+    pub echoes-standard : (o : ℕ) → o ≡ length v - 4 → r ≡ Standard
+        → rule (eqb (o % 12) 0) (length v + (12 - o % 12) % 12) (length v) ≡ checkOf r Echoes v
+    unfolding checkOf fitness standardRule
+    echoes-standard o h q = rw (eq-eqb _ _ e, q, h)
 
--- 10, then 7
-module _ (r : Reading) (k : Kind) (v : List ℕ) where
-  pub check-other : (typeOf v ≡ kindType k → ⊥) → Unfit (OtherType (typeOf v)) ≡ checkOf r k v
-  unfolding checkOf
-  check-other n = rw (ne-eqb _ _ n)
+    pub echoes-short : length v < 16 → r ≡ Crate → rule false 16 (length v) ≡ checkOf r Echoes v
+    unfolding checkOf fitness crateRule
+    echoes-short h q = rw (eq-eqb _ _ e, q, lt-leb _ _ h)
 
-  pub check-standard : typeOf v ≡ kindType k → r ≡ Standard → standardRule k (length v) ≡ checkOf r k v
-  unfolding checkOf fitness
-  check-standard e q = rw (eq-eqb _ _ e, q)
-
-  pub check-crate : typeOf v ≡ kindType k → r ≡ Crate → crateRule k (blockLength v) (length v) ≡ checkOf r k v
-  unfolding checkOf fitness
-  check-crate e q = rw (eq-eqb _ _ e, q)
+    pub echoes-crate : (l : ℕ) → l ≡ blockLength v → 16 ≤ length v → r ≡ Crate
+        → rule (eqb (l % 16) 0) (l + l % 16) (length v) ≡ checkOf r Echoes v
+    unfolding checkOf fitness crateRule
+    echoes-crate l h k q = rw (eq-eqb _ _ e, q, h, le-leb _ _ k)
 
 module _ (r : Reading) (g : Ranged) (v : List ℕ) where
   pub fields-shown : checkOf r (Spans g) v ≡ Fine → isCut r g (length v) ≡ false → Shown (fieldsAt v) ≡ fieldsOf r g v

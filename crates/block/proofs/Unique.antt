@@ -3,12 +3,28 @@
 use mathlib.Core.Path.{sym, _∙_}
 use contract.Lifetimes.{Lfts}
 use Rattle.laws.proofs.Determined.{Fixes}
+use Rattle.block.proofs.check_chunks.Reads as check-chunks
+use Rattle.block.proofs.check_times.Reads as check-times
+use Rattle.block.proofs.check_clock.Reads as check-clock
+use Rattle.block.proofs.check_echoes.Reads as check-echoes
 use Rattle.block.proofs.check.Reads as check
 use Rattle.block.proofs.fields_at.Reads as fields-at
 use Rattle.block.proofs.fields.Reads as fields
 use Rattle.block.proofs.time.Reads as time
 use Rattle.block.proofs.fields_in.Reads as fields-in
 use Rattle.block.proofs.time_in.Reads as time-in
+
+pub check-chunks-unique : (κs : Lfts 1) → Fixes (check-chunks.Post κs) (λ r s. r)
+check-chunks-unique κs a r₁ r₂ s₁ s₂ p q = p ∙ sym q
+
+pub check-times-unique : (κs : Lfts 1) → Fixes (check-times.Post κs) (λ r s. r)
+check-times-unique κs a r₁ r₂ s₁ s₂ p q = p ∙ sym q
+
+pub check-clock-unique : (κs : Lfts 1) → Fixes (check-clock.Post κs) (λ r s. r)
+check-clock-unique κs a r₁ r₂ s₁ s₂ p q = p ∙ sym q
+
+pub check-echoes-unique : (κs : Lfts 1) → Fixes (check-echoes.Post κs) (λ r s. r)
+check-echoes-unique κs a r₁ r₂ s₁ s₂ p q = p ∙ sym q
 
 pub check-unique : (κs : Lfts 1) → Fixes (check.Post κs) (λ r s. r)
 check-unique κs a r₁ r₂ s₁ s₂ p q = p ∙ sym q

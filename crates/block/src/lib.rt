@@ -2,8 +2,8 @@
 // Port of: xr/mod.rs XrBlock::parse_into; the parse functions and accessors of rle.rs, packet_receipt_time.rs,
 // receiver_reference_time.rs, dlrr.rs.
 ghost use mathlib.Core.Path.{_≡_};
-ghost use Prim.Native.Nat.{_^_, _≤_, _<_};
-ghost use Rattle.def_wire.specs.Block.{standardRule, crateRule, checkOf, isCut, fieldsAt, fieldsOf, timeOf};
+ghost use Prim.Native.Nat.{_≤_};
+ghost use Rattle.def_wire.specs.Block.{typeOf, blockLength, checkOf, isCut, fieldsAt, fieldsOf, timeOf};
 ghost use Rattle.def_questions.specs.Packets.{fieldsAsked, timeAsked};
 use def_refusals::Checked;
 use def_refusals::Refusal;
@@ -14,7 +14,11 @@ use def_wire::Located;
 use def_wire::LongTime;
 use def_wire::Ranged;
 use def_wire::Reading;
+use def_wire::Rle;
 use def_wire::TimeOr;
+use records::DelaySinceLastReceiverReport;
+use records::PacketReceiptTimes;
+use records::ReceiverReferenceTime;
 
 // A length rule: it holds, or 7.
 fn rule(ok: bool, expected: usize, actual: usize) -> Checked
@@ -26,51 +30,111 @@ fn rule(ok: bool, expected: usize, actual: usize) -> Checked
     Checked::Unfit(Refusal::BadBlockLength(expected, actual))
 }
 
-fn standard_rule(k: Kind, l: usize) -> Checked
-    requires { ⌜ l < 2 ^ 63 ⌝ }
-    ensures { λ a. ⌜ a ≡ standardRule k l ⌝ }
+// The type and the length L that a view's header bytes say.
+fn type_of(v: &[u8]) -> u8
+    ensures { λ a. ⌜ a ≡ typeOf (now (v .entry)) ⌝ }
 {
-    match k {
-        Kind::Spans(_) => rule(12 <= l, 12, l),
-        Kind::Clock => rule(l == 12, 12, l),
-        Kind::Echoes => {
-            let over = utils::above(l, 4) % 12;
-            rule(over == 0, l + (12 - over) % 12, l)
+    xr::block_type(xr::header_data(v))
+}
+
+fn length_of(v: &[u8]) -> usize
+    ensures { λ a. ⌜ (a ≡ blockLength (now (v .entry))) × (a ≤ 262144) ⌝ }
+{
+    xr::block_length(xr::header_data(v))
+}
+
+// 10, with the block's own type.
+fn other(t: u8) -> Checked
+    ensures { λ c. ⌜ c ≡ Checked.Unfit (Refusal.OtherType t) ⌝ }
+{
+    Checked::Unfit(Refusal::OtherType(t as usize))
+}
+
+// 10, then 7, of a block's view, asked as type 1 or 2.
+pub fn check_chunks(r: Reading, a: Rle, v: &[u8]) -> Checked
+    ensures { λ c. ⌜ c ≡ checkOf r (Kind.Spans (Ranged.Chunks a)) (now (v .entry)) ⌝ }
+{
+    let t = type_of(v);
+    if t != records::rle_type(a) {
+        return other(t);
+    }
+    match r {
+        Reading::Standard => rule(12 <= v.len(), 12, v.len()),
+        Reading::Crate => {
+            let l = length_of(v);
+            rule(12 <= l, 12, l)
         }
     }
 }
 
-fn crate_rule(k: Kind, l: usize, left: usize) -> Checked
-    requires { ⌜ l ≤ 262144 ⌝ }
-    ensures { λ a. ⌜ a ≡ crateRule k l left ⌝ }
+// The same, asked as type 3.
+pub fn check_times(r: Reading, v: &[u8]) -> Checked
+    ensures { λ c. ⌜ c ≡ checkOf r (Kind.Spans Ranged.Times) (now (v .entry)) ⌝ }
 {
-    match k {
-        Kind::Spans(g) => match g {
-            Ranged::Chunks(_) => rule(12 <= l, 12, l),
-            Ranged::Times => Checked::Fine,
-        },
-        Kind::Clock => rule(12 <= left, 12, left),
-        Kind::Echoes => {
-            if 16 <= left {
-                return rule(l % 16 == 0, l + l % 16, left);
+    let t = type_of(v);
+    if t != PacketReceiptTimes::BLOCK_TYPE {
+        return other(t);
+    }
+    match r {
+        Reading::Standard => rule(12 <= v.len(), 12, v.len()),
+        Reading::Crate => Checked::Fine,
+    }
+}
+
+// As type 4.
+pub fn check_clock(r: Reading, v: &[u8]) -> Checked
+    ensures { λ c. ⌜ c ≡ checkOf r Kind.Clock (now (v .entry)) ⌝ }
+{
+    let t = type_of(v);
+    if t != ReceiverReferenceTime::BLOCK_TYPE {
+        return other(t);
+    }
+    match r {
+        Reading::Standard => rule(v.len() == 12, 12, v.len()),
+        Reading::Crate => rule(12 <= v.len(), 12, v.len()),
+    }
+}
+
+// As type 5.
+pub fn check_echoes(r: Reading, v: &[u8]) -> Checked
+    ensures { λ c. ⌜ c ≡ checkOf r Kind.Echoes (now (v .entry)) ⌝ }
+{
+    let t = type_of(v);
+    if t != DelaySinceLastReceiverReport::BLOCK_TYPE {
+        return other(t);
+    }
+    match r {
+        Reading::Standard => {
+            let over = utils::above(v.len(), 4) % 12;
+            rule(over == 0, v.len() + (12 - over) % 12, v.len())
+        }
+        Reading::Crate => {
+            if v.len() < 16 {
+                return rule(false, 16, v.len());
             }
-            rule(false, 16, left)
+            let l = length_of(v);
+            rule(l % 16 == 0, l + l % 16, v.len())
         }
     }
 }
 
-// 10, then 7, of a block's view, asked as a kind. Port of: XrBlock::parse_into.
+// The same, asked as a kind. Port of: XrBlock::parse_into.
 pub fn check(r: Reading, k: Kind, v: &[u8]) -> Checked
     ensures { λ a. ⌜ a ≡ checkOf r k (now (v .entry)) ⌝ }
 {
-    let h = xr::header_data(v);
-    let t = xr::block_type(h);
-    if t != records::kind_type(k) {
-        return Checked::Unfit(Refusal::OtherType(t as usize));
+    match k {
+        Kind::Spans(g) => check_range(r, g, v),
+        Kind::Clock => check_clock(r, v),
+        Kind::Echoes => check_echoes(r, v),
     }
-    match r {
-        Reading::Standard => standard_rule(k, v.len()),
-        Reading::Crate => crate_rule(k, xr::block_length(h), v.len()),
+}
+
+fn check_range(r: Reading, g: Ranged, v: &[u8]) -> Checked
+    ensures { λ a. ⌜ a ≡ checkOf r (Kind.Spans g) (now (v .entry)) ⌝ }
+{
+    match g {
+        Ranged::Chunks(a) => check_chunks(r, a, v),
+        Ranged::Times => check_times(r, v),
     }
 }
 
@@ -91,7 +155,7 @@ pub fn fields_at(v: &[u8]) -> Fields
 pub fn fields(r: Reading, g: Ranged, v: &[u8]) -> FieldsOr
     ensures { λ a. ⌜ a ≡ fieldsOf r g (now (v .entry)) ⌝ }
 {
-    match check(r, Kind::Spans(g), v) {
+    match check_range(r, g, v) {
         Checked::Fine => {
             if is_cut(r, g, v.len()) {
                 return FieldsOr::NoneOf(Refusal::NoFields(v.len()));
@@ -119,7 +183,7 @@ fn is_cut(r: Reading, g: Ranged, left: usize) -> bool
 pub fn time(r: Reading, v: &[u8]) -> TimeOr
     ensures { λ a. ⌜ a ≡ timeOf r (now (v .entry)) ⌝ }
 {
-    match check(r, Kind::Clock, v) {
+    match check_clock(r, v) {
         Checked::Fine => TimeOr::Time(LongTime(utils::u64_from_be_bytes(v, 4))),
         Checked::Unfit(x) => TimeOr::NoTime(x),
     }

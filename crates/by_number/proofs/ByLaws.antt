@@ -11,7 +11,8 @@ use Rattle.def_wire.specs.declared.RleOr.the-variants.{AnRle, NoRle}
 use Rattle.def_wire.specs.declared.Ranged.{Ranged}
 use Rattle.def_wire.specs.declared.RangedOr.the-variants.{ARange, NoRange}
 use Rattle.def_wire.specs.declared.FieldsOr.the-variants.{NoneOf}
-use Rattle.def_wire.specs.Packet.{viewOf}
+use Rattle.def_wire.specs.declared.Located.the-variants.{At, Missing}
+use Rattle.def_wire.specs.Packet.{locate, part, viewOf}
 use Rattle.def_wire.specs.Block.{rleOf, rangedOf}
 use Rattle.def_questions.specs.Questions.{numbersShown}
 use Rattle.def_questions.specs.Packets.{numbersAsked, wordsAsked, fieldsAsked, onViewFields}
@@ -52,8 +53,12 @@ module _ (r : Reading) (s : List ℕ) (k t : ℕ) where
     unfolding wordsBy
     words-other = rw e (none-served (viewOf r s k))
 
-  -- what the header or the walk refuses is refused, whatever is asked
-  pub numbers-refused : (x : Refusal) → viewOf r s k ≡ refused x → numbersBy r s k t ≡ refused x
+  -- of the view where there is one; what the header or the walk refuses is refused, whatever is asked
+  pub numbers-viewed : (at n : ℕ) → locate r s k ≡ At at n → numbersViewBy r t (part s at n) ≡ numbersBy r s k t
+  unfolding numbersBy
+  numbers-viewed at n e = rw e
+
+  pub numbers-refused : (x : Refusal) → locate r s k ≡ Missing x → numbersBy r s k t ≡ refused x
   unfolding numbersBy
   numbers-refused x e = rw e
 

@@ -19,8 +19,8 @@ use Rattle.def_standard.specs.Range.{circle, numberOf}
 use Rattle.def_standard.specs.Standard.{valuesOf, isListed, numbersFrom, numbersOf}
 use Rattle.chunk.proofs.ChunkLaws.{length-valuesIn, values-at}
 use Rattle.range.specs.Inside.{insideCount}
-use Rattle.rle.specs.Places.{numbersIn}
-use Rattle.rle.proofs.NumbersLaws.{numbersIn-cons}
+use Rattle.ones.specs.Places.{numbersIn}
+use Rattle.ones.proofs.NumbersLaws.{numbersIn-cons}
 use Rattle.def_cursor.specs.declared.Cursor.{Cursor}
 use Rattle.def_cursor.specs.Cursor.{cursor, start, stepsIn, wordAt, legal, nextPosition, stepOf, listedAt, takenBy}
 use Rattle.def_cursor.specs.Cursor.{listedBy, stepsLeft}

@@ -11,7 +11,7 @@ use native.Mathlib.Omega.{arith}
 use lib.ListN.{length}
 use Rattle.def_standard.specs.declared.Range.{Range}
 use Rattle.def_standard.specs.Range.{circle, numberOf}
-use Rattle.rle.specs.Along.{along}
+use Rattle.ones.specs.Along.{along}
 use Rattle.range.specs.Inside.{insideCount}
 use Rattle.range.specs.Steps.{stepOf}
 use Rattle.laws.proofs.Filling.{Filling, done}

@@ -12,11 +12,11 @@ use Rattle.laws.proofs.Tests.{either}
 use Rattle.def_standard.specs.declared.Range.{Range}
 use Rattle.def_standard.specs.Chunks.{valuesIn}
 use Rattle.def_standard.specs.Range.{numberOf}
-use Rattle.rle.specs.Along.{along}
+use Rattle.ones.specs.Along.{along}
 use Rattle.range.specs.Inside.{insideCount}
 use Rattle.range.specs.Steps.{stepOf}
-use Rattle.rle.specs.Places.{numbersIn}
-use Rattle.rle.proofs.NumbersLaws.{numbers-along}
+use Rattle.ones.specs.Places.{numbersIn}
+use Rattle.ones.proofs.NumbersLaws.{numbers-along}
 use Rattle.cursor.specs.Steps.{placesIn}
 
 take-min : (a b : ℕ) (l : List ℕ) → take a (take b l) ≡ take (min b a) l

@@ -20,8 +20,8 @@ use Rattle.def_standard.specs.Range.{circle, numberOf}
 use Rattle.def_standard.specs.Standard.{isListed}
 use Rattle.chunk.proofs.ChunkLaws.{length-valuesIn, values-at}
 use Rattle.range.specs.Inside.{insideCount}
-use Rattle.rle.specs.Places.{numbersIn}
-use Rattle.rle.proofs.NumbersLaws.{numbersIn-outside, numbersIn-cons}
+use Rattle.ones.specs.Places.{numbersIn}
+use Rattle.ones.proofs.NumbersLaws.{numbersIn-outside, numbersIn-cons}
 use Rattle.def_cursor.specs.declared.Cursor.{Cursor}
 use Rattle.def_cursor.specs.Cursor.{cursor, stepsIn, legal, nextPosition, stepOf, takenBy, afterSteps, listedBy}
 use Rattle.cursor.specs.Steps.{placesIn, positionIn, movedIn}

@@ -15,9 +15,7 @@ use def_cursor::Stretch;
 use def_refusals::Checked;
 use def_refusals::Refusal;
 use def_standard::Range;
-use def_wire::Kind;
 use def_wire::Located;
-use def_wire::Ranged;
 use def_wire::Reading;
 use def_wire::Rle;
 
@@ -108,7 +106,7 @@ fn go(bytes: &[u8], g: Range, c: Cursor, budget: usize, out: &mut [u16]) -> Stre
             utils::above(inside, at.position),
         );
         let first = range::number_at(g, at.position);
-        n = rle::put_places(out, n, w, at.place, room, first, step);
+        n = ones::put_places(out, n, w, at.place, room, first, step);
         if left < takes {
             return Stretch {
                 next: moved(w, left, at),
@@ -148,7 +146,7 @@ fn advance_words(bytes: &[u8], g: Range, c: Cursor, budget: usize, out: &mut [u1
 pub fn advance(a: Rle, v: &[u8], c: Cursor, budget: usize, out: &mut [u16]) -> Advanced
     ensures { λ r. ⌜ Stretched a (now (v .entry)) c budget (now (out .entry)) r (now (out .exit)) ⌝ }
 {
-    match block::check(Reading::Standard, Kind::Spans(Ranged::Chunks(a)), v) {
+    match block::check_chunks(Reading::Standard, a, v) {
         Checked::Fine => {
             let g = range::range_of(block::fields_at(v));
             advance_words(utils::part(v, 12, v.len()), g, c, budget, out)

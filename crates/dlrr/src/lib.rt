@@ -13,7 +13,6 @@ use def_refusals::Answer;
 use def_refusals::Checked;
 use def_refusals::Refusal;
 use def_standard::Echo;
-use def_wire::Kind;
 use def_wire::Located;
 use def_wire::Reading;
 use def_wire::ShortTime;
@@ -24,9 +23,9 @@ fn entry(v: &[u8], at: usize) -> Echo
     ensures { λ e. ⌜ e ≡ echoAt (now (v .entry)) at ⌝ }
 {
     Echo {
-        ssrc: utils::u32_from_be_bytes(v, at),
-        last: ShortTime(utils::u32_from_be_bytes(v, at + 4)),
-        delay: ShortTime(utils::u32_from_be_bytes(v, at + 8)),
+        ssrc: utils::load32(v, at),
+        last: ShortTime(utils::load32(v, at + 4)),
+        delay: ShortTime(utils::load32(v, at + 8)),
     }
 }
 
@@ -72,7 +71,7 @@ pub fn entries(
     ensures { λ a. ⌜ ListedEntries (entriesShown r (now (v .entry))) (now (ssrcs .entry)) (now (lasts .entry))
         (now (delays .entry)) a (now (ssrcs .exit)) (now (lasts .exit)) (now (delays .exit)) ⌝ }
 {
-    match block::check(r, Kind::Echoes, v) {
+    match block::check_echoes(r, v) {
         Checked::Fine => {
             let n = count(v);
             let room = utils::lesser(utils::lesser(ssrcs.len(), lasts.len()), delays.len());

@@ -25,7 +25,7 @@ use Rattle.def_standard.specs.Standard.{numbersOf}
 use Rattle.def_crate.specs.Crate.{crateNumbersFrom}
 use Rattle.def_questions.specs.Questions.{numbersShown, wordsShown, wordsIn}
 use Rattle.def_questions.specs.Packets.{numbersAsked, wordsAsked}
-use Rattle.rle.specs.Stops.{longest}
+use Rattle.rle.specs.Most.{longest}
 use Rattle.numbers.specs.Words.{wordBytes}
 
 -- a part of at most n is the whole of what has no more

@@ -7,9 +7,7 @@ ghost use Rattle.def_questions.specs.Packets.{numbersAsked, wordsAsked};
 ghost use Rattle.numbers.specs.Words.{wordBytes};
 use def_refusals::Answer;
 use def_refusals::Checked;
-use def_wire::Kind;
 use def_wire::Located;
-use def_wire::Ranged;
 use def_wire::Reading;
 use def_wire::Rle;
 
@@ -30,7 +28,7 @@ fn word_bytes(r: Reading, v: &[u8]) -> &[u8]
 pub fn numbers(r: Reading, a: Rle, v: &[u8], out: &mut [u16]) -> Answer
     ensures { λ n. ⌜ Listed (numbersShown r a (now (v .entry))) (now (out .entry)) n (now (out .exit)) ⌝ }
 {
-    match block::check(r, Kind::Spans(Ranged::Chunks(a)), v) {
+    match block::check_chunks(r, a, v) {
         Checked::Fine => {
             let f = block::fields_at(v);
             let bytes = word_bytes(r, v);
@@ -47,7 +45,7 @@ pub fn numbers(r: Reading, a: Rle, v: &[u8], out: &mut [u16]) -> Answer
 pub fn words(r: Reading, a: Rle, v: &[u8], out: &mut [u16]) -> Answer
     ensures { λ n. ⌜ Listed (wordsShown r a (now (v .entry))) (now (out .entry)) n (now (out .exit)) ⌝ }
 {
-    match block::check(r, Kind::Spans(Ranged::Chunks(a)), v) {
+    match block::check_chunks(r, a, v) {
         Checked::Fine => rle::fill_words(word_bytes(r, v), out),
         Checked::Unfit(x) => Answer::Refused(x),
     }

@@ -15,9 +15,7 @@ use def_refusals::Answer;
 use def_refusals::Checked;
 use def_refusals::Refusal;
 use def_wire::Fields;
-use def_wire::Kind;
 use def_wire::Located;
-use def_wire::Ranged;
 use def_wire::Reading;
 use def_wire::ReceiptTime;
 
@@ -74,7 +72,7 @@ pub fn pairs(r: Reading, v: &[u8], numbers: &mut [u16], times: &mut [u32]) -> An
     ensures { λ a. ⌜ ListedPairs (pairsShown r (now (v .entry))) (now (numbers .entry)) (now (times .entry)) a
         (now (numbers .exit)) (now (times .exit)) ⌝ }
 {
-    match block::check(r, Kind::Spans(Ranged::Times), v) {
+    match block::check_times(r, v) {
         Checked::Fine => {
             let f = block::fields_at(v);
             let n = utils::lesser(listable_of(r, f), times_count(v));

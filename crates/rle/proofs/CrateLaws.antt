@@ -18,11 +18,12 @@ use Rattle.def_crate.specs.Sequence.{passes, sequenceOf, movedBy}
 use Rattle.def_crate.specs.Crate.{Try, whileFrom, onesIn, tryAt, triesFrom, crateNumbersFrom}
 use Rattle.chunk.proofs.ChunkLaws.{length-valuesIn, covers-lt}
 use Rattle.range.specs.Steps.{stepOf}
-use Rattle.rle.specs.Along.{along}
-use Rattle.rle.specs.Stops.{failsAt, stopFrom, stopAt, mostOf}
-use Rattle.rle.proofs.ListingLaws.{length-along-le}
+use Rattle.ones.specs.Along.{along}
+use Rattle.ones.specs.Stops.{failsAt, stopFrom, stopAt}
+use Rattle.rle.specs.Most.{mostOf}
+use Rattle.ones.proofs.ListingLaws.{length-along-le}
 use Rattle.range.proofs.SequenceLaws.{sequenceOf-suc, sequenceOf-zero}
-use Rattle.rle.proofs.WordLaws.{word-zeros}
+use Rattle.ones.proofs.WordLaws.{word-zeros}
 
 module _ (end t : ℕ) where
   -- the tries that pass, up to the first that fails

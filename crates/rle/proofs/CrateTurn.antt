@@ -15,11 +15,12 @@ use Rattle.def_crate.specs.Sequence.{movedBy}
 use Rattle.def_crate.specs.Crate.{crateNumbersFrom}
 use Rattle.utils.proofs.BytesLaws.{length-pairUp}
 use Rattle.range.specs.Steps.{stepOf}
-use Rattle.rle.specs.Along.{along}
-use Rattle.rle.specs.Stops.{stopAt, mostOf}
+use Rattle.ones.specs.Along.{along}
+use Rattle.ones.specs.Stops.{stopAt}
+use Rattle.rle.specs.Most.{mostOf}
 use Rattle.rle.specs.Runs.{here}
-use Rattle.rle.proofs.WordLaws.{word-zeros}
-use Rattle.rle.proofs.StopLaws.{stop-zeros}
+use Rattle.ones.proofs.WordLaws.{word-zeros}
+use Rattle.ones.proofs.StopLaws.{stop-zeros}
 use Rattle.rle.proofs.CrateLaws.{crate-nil, crate-cons, length-crate, most-nil, most-cons, most-le}
 use Rattle.rle.proofs.Turn.{words-end, words-cons, Turn, next}
 

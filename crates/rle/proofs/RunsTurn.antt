@@ -17,13 +17,13 @@ use Rattle.def_standard.specs.Chunks.{coversOf}
 use Rattle.def_crate.specs.Sequence.{movedBy}
 use Rattle.range.specs.Steps.{stepOf, onward}
 use Rattle.range.specs.Failing.{firstFail}
-use Rattle.rle.specs.Along.{progression, past}
-use Rattle.rle.specs.Stops.{stopAt}
+use Rattle.ones.specs.Along.{progression, past}
+use Rattle.ones.specs.Stops.{stopAt}
 use Rattle.rle.specs.Runs.{here, Ran}
-use Rattle.rle.proofs.ListingLaws.{length-progression}
-use Rattle.rle.proofs.WordLaws.{word-ones}
+use Rattle.ones.proofs.ListingLaws.{length-progression}
+use Rattle.ones.proofs.WordLaws.{word-ones}
 use Rattle.range.proofs.SequenceLaws.{moved-sequence, sequenceOf-suc}
-use Rattle.rle.proofs.StopLaws.{stop-clear}
+use Rattle.ones.proofs.StopLaws.{stop-clear}
 use Rattle.range.proofs.NextLaws.{next-same}
 use Rattle.rle.proofs.Turn.{next}
 use Rattle.rle.proofs.CrateTurn.{turn}

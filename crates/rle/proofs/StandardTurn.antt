@@ -20,8 +20,8 @@ use Rattle.def_standard.specs.Standard.{numbersFrom}
 use Rattle.def_crate.specs.Sequence.{movedBy}
 use Rattle.range.specs.Inside.{insideCount}
 use Rattle.range.specs.Steps.{stepOf}
-use Rattle.rle.specs.Along.{along}
-use Rattle.rle.proofs.NumbersLaws.{numbers-nil, numbers-cons, numbers-along, numbers-outside}
+use Rattle.ones.specs.Along.{along}
+use Rattle.ones.proofs.NumbersLaws.{numbers-nil, numbers-cons, numbers-along, numbers-outside}
 use Rattle.rle.proofs.Turn.{words-end, words-cons, Turn}
 
 pub record Standing (g : Range) (left first : ℕ) : Type 0 where

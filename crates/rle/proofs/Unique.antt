@@ -7,7 +7,6 @@ use Rattle.rle.proofs.count_standard.Reads as count-standard
 use Rattle.rle.proofs.fill_standard.Reads as fill-standard
 use Rattle.rle.proofs.count_crate.Reads as count-crate
 use Rattle.rle.proofs.fill_crate.Reads as fill-crate
-use Rattle.rle.proofs.put_places.Reads as put-places
 use Rattle.rle.proofs.count_words.Reads as count-words
 use Rattle.rle.proofs.fill_words.Reads as fill-words
 
@@ -28,12 +27,6 @@ fill-crate-unique κs a r₁ r₂ s₁ s₂ p q = p .answer ∙ sym (q .answer)
 
 pub fill-crate-unique-out : (κs : Lfts 2) → Fixes (fill-crate.Post κs) (λ r s. s .1 .1 .1 .1 .0 .now)
 fill-crate-unique-out κs a r₁ r₂ s₁ s₂ p q = p .filled ∙ sym (q .filled)
-
-pub put-places-unique : (κs : Lfts 1) → Fixes (put-places.Post κs) (λ r s. r)
-put-places-unique κs a r₁ r₂ s₁ s₂ p q = p .past ∙ sym (q .past)
-
-pub put-places-unique-out : (κs : Lfts 1) → Fixes (put-places.Post κs) (λ r s. s .0 .now)
-put-places-unique-out κs a r₁ r₂ s₁ s₂ p q = p .stored ∙ sym (q .stored)
 
 pub count-words-unique : (κs : Lfts 1) → Fixes (count-words.Post κs) (λ r s. r)
 count-words-unique κs a r₁ r₂ s₁ s₂ p q = p ∙ sym q

@@ -1,8 +1,4 @@
--- What the functions of this crate compute on their way to the definitions' lists. Read in this order: Along (numbers
--- one step apart, listed), Places (one word's places), Stops (where the crate's list of a word ends), Runs (words that
--- were passed), Digits.
-pub mod Along
-pub mod Places
-pub mod Stops
+-- What the functions of this crate compute on their way to the definitions' lists: Most (as many numbers as words can
+-- list), Runs (words that were passed).
+pub mod Most
 pub mod Runs
-pub mod Digits

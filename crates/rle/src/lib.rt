@@ -1,7 +1,6 @@
 // The numbers and the chunk words of loss and duplicate blocks (RFC 3611, 4.1 and 4.2), in both readings, from the
 // bytes of the words. Which bytes those are, and the checks before, are the callers'.
 mod list;
-mod word;
 
 ghost use mathlib.Core.Path.{_≡_};
 ghost use lib.ListN.{length, take, drop};
@@ -11,8 +10,8 @@ ghost use Rattle.def_standard.specs.Chunks.{valuesIn};
 ghost use Rattle.def_standard.specs.Standard.{numbersOf};
 ghost use Rattle.def_crate.specs.Crate.{crateNumbersFrom};
 ghost use Rattle.laws.specs.Stores.{Wrote};
-ghost use Rattle.rle.specs.Along.{along, fitting};
-ghost use Rattle.rle.specs.Stops.{longest};
+ghost use Rattle.ones.specs.Along.{along, fitting};
+ghost use Rattle.rle.specs.Most.{longest};
 use def_refusals::Answer;
 use def_refusals::Refusal;
 use def_standard::Range;
@@ -84,31 +83,6 @@ pub fn fill_crate(bytes: &[u8], end: u16, thinning: u8, begin: u16, out: &mut [u
         }
     }
     Answer::Done(list::list_crate(part, end, thinning, begin, out))
-}
-
-// Stores the numbers of the ones among some places of a word, from a place on and one step apart, where there is room
-// for all of them; else nothing. Answers the index past those stored. (The cursor stops and goes on inside a word.)
-pub fn put_places(
-    out: &mut [u16],
-    at: usize,
-    w: u16,
-    place: usize,
-    room: usize,
-    first: u16,
-    step: u16,
-) -> usize
-    ensures { λ r. ⌜ Wrote (now (out .entry)) at
-        (fitting (length (now (out .entry))) at (along step first (take room (drop place (valuesIn w)))))
-        (now (out .exit)) r ⌝ }
-{
-    let rest = word::rest_of(w, place);
-    if out.len() < at {
-        return at;
-    }
-    if out.len() - at < chunk::ones_before(rest, room) {
-        return at;
-    }
-    word::store_word(out, at, rest, room, first, step)
 }
 
 // How many whole words there are.

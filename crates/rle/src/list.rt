@@ -9,7 +9,7 @@ ghost use Rattle.def_standard.specs.Standard.{numbersOf};
 ghost use Rattle.def_crate.specs.Crate.{crateNumbersFrom};
 ghost use Rattle.laws.specs.Stores.{Filled};
 ghost use Rattle.range.specs.Steps.{stepOf};
-ghost use Rattle.rle.specs.Stops.{mostOf};
+ghost use Rattle.rle.specs.Most.{mostOf};
 ghost use Rattle.range.specs.Failing.{firstFail};
 ghost use Rattle.rle.specs.Runs.{here, Ran};
 use def_standard::Range;
@@ -27,7 +27,7 @@ pub(crate) fn list_standard(bytes: &[u8], g: Range, out: &mut [u16]) -> usize
     let mut n: usize = 0;
     while at + 1 < bytes.len() {
         let w = utils::pair(bytes[at], bytes[at + 1]);
-        n = crate::word::store_word(out, n, w, left, first, step);
+        n = ones::store_word(out, n, w, left, first, step);
         let covered = chunk::covers(w);
         if left <= covered as usize {
             return n;
@@ -47,7 +47,7 @@ pub(crate) fn at_most(bytes: &[u8]) -> usize
     let mut at: usize = 0;
     let mut n: u32 = 0;
     while at + 1 < bytes.len() {
-        n += crate::word::weight(utils::pair(bytes[at], bytes[at + 1]));
+        n += ones::weight(utils::pair(bytes[at], bytes[at + 1]));
         at += 2;
     }
     n as usize
@@ -66,7 +66,7 @@ pub(crate) fn tally_crate(bytes: &[u8], end: u16, thinning: u8, begin: u16) -> u
         let w = utils::pair(bytes[at], bytes[at + 1]);
         let covered = chunk::covers(w);
         if 0x4000 <= w {
-            let stop = crate::word::stop_at(w, first, start, end, thinning);
+            let stop = ones::stop_at(w, first, start, end, thinning);
             n += chunk::ones_before(w, stop);
             if stop < covered as usize {
                 return n;
@@ -74,7 +74,7 @@ pub(crate) fn tally_crate(bytes: &[u8], end: u16, thinning: u8, begin: u16) -> u
         }
         if covered != 0 {
             let moved = range::moved_by(covered, thinning, start);
-            first = crate::word::next_fail(first, covered, thinning, start, moved, end);
+            first = ones::next_fail(first, covered, thinning, start, moved, end);
             start = moved;
         }
         at += 2;
@@ -138,10 +138,10 @@ fn list_runs(
             };
         }
         let count = chunk::run_length(w);
-        let r = crate::word::store_run(out, n, count as usize, start, step);
+        let r = ones::store_run(out, n, count as usize, start, step);
         n = r.n;
         let next = r.next;
-        first = crate::word::next_fail(first, count, thinning, start, next, end);
+        first = ones::next_fail(first, count, thinning, start, next, end);
         start = next;
         at += 2;
     }
@@ -187,15 +187,15 @@ pub(crate) fn list_crate(bytes: &[u8], end: u16, thinning: u8, begin: u16, out: 
         let w = utils::pair(bytes[at], bytes[at + 1]);
         let covered = chunk::covers(w);
         if 0x4000 <= w {
-            let upto = crate::word::stop_at(w, first, start, end, thinning);
-            n = crate::word::store_word(out, n, w, upto, start, step);
+            let upto = ones::stop_at(w, first, start, end, thinning);
+            n = ones::store_word(out, n, w, upto, start, step);
             if upto < covered as usize {
                 return n;
             }
         }
         if covered != 0 {
             let next = range::moved_by(covered, thinning, start);
-            first = crate::word::next_fail(first, covered, thinning, start, next, end);
+            first = ones::next_fail(first, covered, thinning, start, next, end);
             start = next;
         }
         at += 2;

@@ -1,3 +1,2 @@
--- FlatLaws (a flat answer's contract from the call's that it copies), Unique (no second answer).
-pub mod FlatLaws
+-- Unique: no second answer.
 pub mod Unique

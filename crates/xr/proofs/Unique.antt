@@ -6,6 +6,7 @@ use Rattle.laws.proofs.Determined.{Fixes}
 use Rattle.xr.proofs.Xr.parse.Reads as Xr-parse
 use Rattle.xr.proofs.header.Reads as header
 use Rattle.xr.proofs.count.Reads as count
+use Rattle.xr.proofs.find.Reads as find
 use Rattle.xr.proofs.locate.Reads as locate
 use Rattle.xr.proofs.view.Reads as view
 use Rattle.xr.proofs.header_data.Reads as header-data
@@ -21,6 +22,9 @@ header-unique κs a r₁ r₂ s₁ s₂ p q = p ∙ sym q
 
 pub count-unique : (κs : Lfts 1) → Fixes (count.Post κs) (λ r s. r)
 count-unique κs a r₁ r₂ s₁ s₂ p q = p ∙ sym q
+
+pub find-unique : (κs : Lfts 1) → Fixes (find.Post κs) (λ r s. r)
+find-unique κs a r₁ r₂ s₁ s₂ p q = p ∙ sym q
 
 pub locate-unique : (κs : Lfts 1) → Fixes (locate.Post κs) (λ r s. r)
 locate-unique κs a r₁ r₂ s₁ s₂ p q = p ∙ sym q

@@ -7,7 +7,7 @@ ghost use Rattle.def_wire.specs.Packet.{leastOf, isBadPadding, headerOf, length
 ghost use Rattle.def_wire.specs.Packet.{sizeAt, locate, partAt, bytesAt};
 ghost use Rattle.def_wire.specs.Block.{headerData};
 ghost use Rattle.xr.specs.Parsed.{parsedOf};
-ghost use Rattle.xr.specs.Walks.{Walking, Reach, Walk, found};
+ghost use Rattle.xr.specs.Walks.{Walking, Reach, Walk};
 use def_refusals::Answer;
 use def_refusals::Refusal;
 use def_wire::Located;
@@ -223,11 +223,10 @@ pub fn count(r: Reading, s: &[u8]) -> Answer
     }
 }
 
-// Where block k's view lies among the blocks up to where the header says that they end, or 6 or 9. Port of:
-// XrBlockIter::next.
-fn find(r: Reading, s: &[u8], stop: usize, k: usize) -> Located
-    requires { ⌜ (stop ≤ length (now s)) × (stop % 4 ≡ 0) × (8 ≤ stop) ⌝ }
-    ensures { λ a. ⌜ a ≡ found r (now (s .entry)) stop k ⌝ }
+// The same as `locate`, for a caller that has asked the header: 6 or 9. Port of: XrBlockIter::next.
+pub fn find(r: Reading, s: &[u8], stop: usize, k: usize) -> Located
+    requires { ⌜ headerOf r (now s) ≡ Answer.Done stop ⌝ }
+    ensures { λ a. ⌜ a ≡ locate r (now (s .entry)) k ⌝ }
 {
     let w = walk(s, stop, k);
     let n = w.count;
@@ -279,12 +278,15 @@ pub fn view(r: Reading, s: &[u8], k: usize) -> &[u8]
 pub fn header_data(v: &[u8]) -> [u8; 4]
     ensures { λ a. ⌜ a ≡ headerData (now (v .entry)) ⌝ }
 {
-    [
-        utils::byte_at(v, 0),
-        utils::byte_at(v, 1),
-        utils::byte_at(v, 2),
-        utils::byte_at(v, 3),
-    ]
+    if v.len() < 4 {
+        return [
+            utils::byte_at(v, 0),
+            utils::byte_at(v, 1),
+            utils::byte_at(v, 2),
+            utils::byte_at(v, 3),
+        ];
+    }
+    [v[0], v[1], v[2], v[3]]
 }
 
 // The type, the specific byte and the length L, taken from the four header bytes. Port of: XrBlockParserExt.

@@ -11,7 +11,7 @@ returns c = let k = c .before in
     let t = k .before in
     let h = t .before .before in
     let a = h .before .before .args in
-    fields-cut (a .r) (a .g) (a .v .now) (sym (h .check .ensures) ∙ t .enum-told .given .1)
+    fields-cut (a .r) (a .g) (a .v .now) (sym (h .check-range .ensures) ∙ t .enum-told .given .1)
     (sym (k .is-cut .ensures) ∙ c .if1 .taken)
 
 returns-2 : tie.Need-returns-2
@@ -20,14 +20,14 @@ returns-2 c = let k = c .before .before in
     let h = t .before .before in
     let a = h .before .before .args in
     ap Shown (c .fields-at .ensures)
-    ∙ fields-shown (a .r) (a .g) (a .v .now) (sym (h .check .ensures) ∙ t .enum-told .given .1)
+    ∙ fields-shown (a .r) (a .g) (a .v .now) (sym (h .check-range .ensures) ∙ t .enum-told .given .1)
     (sym (k .is-cut .ensures) ∙ c .before .if1 .left)
 
 returns-3 : tie.Need-returns-3
 returns-3 c = let x = c .before in
     let h = x .before .before in
     let a = h .before .before .args in
-    fields-unfit (a .r) (a .g) (a .v .now) (x .x .given .0 .0) (sym (h .check .ensures) ∙ x .x .given .1)
+    fields-unfit (a .r) (a .g) (a .v .now) (x .x .given .0 .0) (sym (h .check-range .ensures) ∙ x .x .given .1)
 
 pub fields-spec : {M : Type 1} → statement M
 fields-spec =

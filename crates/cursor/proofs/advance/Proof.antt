@@ -20,7 +20,7 @@ returns c = let w = c .before .before in
     let g : r .range-of .result ≡ rangeOf (fieldsAt (a .v .now)) = r .range-of .ensures
     ∙ ap rangeOf (r .before .fields-at .ensures) in
     stretched-fit (a .a) (a .v .now) (a .c) (a .budget) (a .out .now) (w .advance-words .result) _
-    (sym (k .check .ensures) ∙ r .before .before .enum-told .given .1)
+    (sym (k .check-chunks .ensures) ∙ r .before .before .enum-told .given .1)
     (rw (← g, ← words-behind (a .v .now), ← q .part .ensures .0) (w .advance-words .ensures))
 
 returns-2 : tie.Need-returns-2
@@ -28,7 +28,7 @@ returns-2 c = let x = c .before in
     let k = x .before .before in
     let a = k .before .before .before .args in
     stretched-unfit (a .a) (a .v .now) (a .c) (a .budget) (a .out .now) (x .x .given .0 .0)
-    (sym (k .check .ensures) ∙ x .x .given .1)
+    (sym (k .check-chunks .ensures) ∙ x .x .given .1)
 
 pub advance-spec : {M : Type 1} → statement M
 advance-spec =

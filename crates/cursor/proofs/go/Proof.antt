@@ -6,10 +6,10 @@ use Rattle.cursor.proofs.LegalLaws.{legal-position, legal-place}
 use Rattle.cursor.specs.Steps.{placesIn, movedIn}
 use Rattle.def_cursor.specs.Cursor.{stepsIn, wordAt, listedBy}
 use Rattle.def_cursor.specs.declared.Cursor.{Cursor}
-use Rattle.rle.proofs.ListingLaws.{fitting-all}
+use Rattle.ones.proofs.ListingLaws.{fitting-all}
 use Rattle.range.specs.Inside.{insideCount}
 use Rattle.range.specs.Steps.{stepOf}
-use Rattle.rle.specs.Along.{along}
+use Rattle.ones.specs.Along.{along}
 use Rattle.laws.specs.Stores.{Wrote}
 use Rattle.laws.proofs.Filling.{Filling, start, room-for, wrote}
 use Rattle.utils.proofs.BytesLaws.{length-pairUp}

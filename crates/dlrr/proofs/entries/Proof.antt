@@ -16,7 +16,7 @@ returns c = let r = c .before in
     let h = t .before .before in
     let a = h .before .before .before .before .before .args in
     entries-full _ (a .ssrcs .now) (a .lasts .now) (a .delays .now) (entriesOf (a .v .now)) (n .count .result)
-    (r .lesser2 .result) (entries-fine (a .r) (a .v .now) (sym (h .check .ensures) ∙ t .enum-told .given .1))
+    (r .lesser2 .result) (entries-fine (a .r) (a .v .now) (sym (h .check-echoes .ensures) ∙ t .enum-told .given .1))
     (n .count .ensures) (r .lesser2 .ensures ∙ ap (λ (x : ℕ). min x (length (a .delays .now)))
     (r .before .lesser .ensures)) (c .if1 .taken)
 
@@ -29,7 +29,7 @@ returns-2 c = let st = c .before .before .before .before .before .before in
     let h = t .before .before in
     let a = h .before .before .before .before .before .args in
     entries-listed _ (a .ssrcs .now) (a .lasts .now) (a .delays .now) (entriesOf (a .v .now)) (n .count .result) _ _ _
-    (entries-fine (a .r) (a .v .now) (sym (h .check .ensures) ∙ t .enum-told .given .1)) (n .count .ensures)
+    (entries-fine (a .r) (a .v .now) (sym (h .check-echoes .ensures) ∙ t .enum-told .given .1)) (n .count .ensures)
     (omega (arith, e .if1 .left, r .lesser2 .ensures, r .before .lesser .ensures)) (st .store .ensures)
 
 returns-3 : tie.Need-returns-3
@@ -37,7 +37,7 @@ returns-3 c = let x = c .before in
     let h = x .before .before in
     let a = h .before .before .before .before .before .args in
     entries-refused _ (a .ssrcs .now) (a .lasts .now) (a .delays .now) (x .x .given .0 .0)
-    (entries-unfit (a .r) (a .v .now) (x .x .given .0 .0) (sym (h .check .ensures) ∙ x .x .given .1))
+    (entries-unfit (a .r) (a .v .now) (x .x .given .0 .0) (sym (h .check-echoes .ensures) ∙ x .x .given .1))
 
 pub entries-spec : {M : Type 1} → statement M
 entries-spec =

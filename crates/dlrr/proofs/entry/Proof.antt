@@ -5,9 +5,9 @@ use Rattle.dlrr.proofs.entry.Tie as tie
 
 returns : tie.Need-returns
 returns c = rw (
-  c .before .before .u32-from-be-bytes .ensures,
-  c .before .u32-from-be-bytes2 .ensures,
-  c .u32-from-be-bytes3 .ensures,
+  c .before .before .load32 .ensures,
+  c .before .load322 .ensures,
+  c .load323 .ensures,
 )
 
 pub entry-spec : {M : Type 1} → statement M

@@ -19,7 +19,7 @@ returns c = let fs = c .before .before in
     let f = w .before in
     let h = f .before .before .before in
     let a = h .before .before .before .args in
-    let e = numbers-standard (a .r) (a .a) (a .v .now) (sym (h .check .ensures) ∙ f .before .enum-told .given .1)
+    let e = numbers-standard (a .r) (a .a) (a .v .now) (sym (h .check-chunks .ensures) ∙ f .before .enum-told .given .1)
     (f .fields-at .result) _ (f .fields-at .ensures) (w .word-bytes .ensures) (t .enum-told2 .given .1) in
     listed-as (ap (λ (q : Range). shown (numbersOf q (words16 (w .word-bytes .result .now)))) (g .range-of .ensures)
     ∙ e) (fs .fill-standard .ensures)
@@ -31,7 +31,7 @@ returns-2 c = let fs = c .before .before in
     let f = w .before in
     let h = f .before .before .before in
     let a = h .before .before .before .args in
-    listed-as (numbers-crate (a .r) (a .a) (a .v .now) (sym (h .check .ensures) ∙ f .before .enum-told .given .1)
+    listed-as (numbers-crate (a .r) (a .a) (a .v .now) (sym (h .check-chunks .ensures) ∙ f .before .enum-told .given .1)
     (f .fields-at .result) (w .word-bytes .result .now) (f .fields-at .ensures) (w .word-bytes .ensures)
     (t .enum-told3 .given .1) (omega (
       arith,
@@ -44,7 +44,7 @@ returns-3 c = let x = c .before in
     let h = x .before .before in
     let a = h .before .before .before .args in
     turned-away _ (a .out .now) (x .x .given .0 .0) (numbers-unfit (a .r) (a .a) (a .v .now) (x .x .given .0 .0)
-    (sym (h .check .ensures) ∙ x .x .given .1))
+    (sym (h .check-chunks .ensures) ∙ x .x .given .1))
 
 pub numbers-spec : {M : Type 1} → statement M
 numbers-spec =

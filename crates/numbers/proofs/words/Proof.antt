@@ -13,14 +13,14 @@ returns c = let fw = c .before .before in
     let h = t .before .before in
     let a = h .before .before .before .args in
     listed-as (words-fine (a .r) (a .a) (a .v .now) _ (w .word-bytes .ensures)
-    (sym (h .check .ensures) ∙ t .enum-told .given .1)) (fw .fill-words .ensures)
+    (sym (h .check-chunks .ensures) ∙ t .enum-told .given .1)) (fw .fill-words .ensures)
 
 returns-2 : tie.Need-returns-2
 returns-2 c = let x = c .before in
     let h = x .before .before in
     let a = h .before .before .before .args in
     turned-away _ (a .out .now) (x .x .given .0 .0) (words-unfit (a .r) (a .a) (a .v .now) (x .x .given .0 .0)
-    (sym (h .check .ensures) ∙ x .x .given .1))
+    (sym (h .check-chunks .ensures) ∙ x .x .given .1))
 
 pub words-spec : {M : Type 1} → statement M
 words-spec =

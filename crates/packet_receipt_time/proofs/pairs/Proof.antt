@@ -58,7 +58,7 @@ asked c first step p q =
       length-drop 12 (v-of c),
       b .good,
     ) in
-    pairs-fine (b .args .r) (v-of c) (sym (h .check .ensures) ∙ t .enum-told .given .1) (be16-lt (v-of c) 8 bytes)
+    pairs-fine (b .args .r) (v-of c) (sym (h .check-times .ensures) ∙ t .enum-told .given .1) (be16-lt (v-of c) 8 bytes)
     (be16-lt (v-of c) 10 bytes) few first step (c .lesser .result) p q (counted c)
 
 long : (c : tie.After-lesser) (first step : ℕ) → c .lesser .result ≡ length
@@ -99,7 +99,7 @@ returns-3 c = let x = c .before in
     let h = x .before .before in
     let a = h .before .before .before .before .args in
     pairs-refused _ (a .numbers .now) (a .times .now) (x .x .given .0 .0)
-    (pairs-unfit (a .r) (a .v .now) (x .x .given .0 .0) (sym (h .check .ensures) ∙ x .x .given .1))
+    (pairs-unfit (a .r) (a .v .now) (x .x .given .0 .0) (sym (h .check-times .ensures) ∙ x .x .given .1))
 
 pub pairs-spec : {M : Type 1} → statement M
 pairs-spec =

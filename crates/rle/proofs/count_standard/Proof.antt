@@ -16,8 +16,8 @@ use Rattle.def_standard.specs.Range.{numberOf}
 use Rattle.def_standard.specs.Standard.{numbersOf}
 use Rattle.range.specs.Inside.{insideCount}
 use Rattle.range.proofs.InsideLaws.{inside-count-le}
-use Rattle.rle.proofs.NumbersLaws.{length-numbers}
-use Rattle.rle.proofs.WordLaws.{length-ones}
+use Rattle.ones.proofs.NumbersLaws.{length-numbers}
+use Rattle.ones.proofs.WordLaws.{length-ones}
 use Rattle.rle.proofs.Turn.{Turn, count-room, count-last, count-next}
 use Rattle.rle.proofs.StandardTurn.{here, added, here-start, here-end, count-turn}
 use Rattle.rle.proofs.count_standard.Statement.{statement}

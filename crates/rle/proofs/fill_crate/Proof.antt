@@ -7,7 +7,7 @@ use Rattle.def_crate.specs.Crate.{crateNumbersFrom}
 use Rattle.def_wire.specs.Bytes.{words16}
 use Rattle.def_refusals.specs.Answers.{shown, Listed}
 use Rattle.def_refusals.specs.declared.Answer.{Answer}
-use Rattle.rle.specs.Stops.{mostOf}
+use Rattle.rle.specs.Most.{mostOf}
 use lib.ListN.{length, take}
 use mathlib.Core.List.{List, [], _∷_}
 use native.Mathlib.Omega.{arith}

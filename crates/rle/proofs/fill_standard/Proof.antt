@@ -1,6 +1,6 @@
 -- `rle::fill_standard` meets its contract: there is room for all that are inside, or for as many as were counted; else
 -- it is refused. Assumes nothing.
-use Rattle.rle.proofs.NumbersLaws.{length-numbers}
+use Rattle.ones.proofs.NumbersLaws.{length-numbers}
 use Rattle.laws.proofs.Answering.{listed, full}
 use Rattle.def_standard.specs.Standard.{numbersOf}
 use Rattle.def_wire.specs.Bytes.{words16}

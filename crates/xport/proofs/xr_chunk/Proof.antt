@@ -1,7 +1,7 @@
 -- `xport::xr_chunk` meets its contract: makes one chunk word of a kind (0 Null, 1 a run of zeros, 2 a run of ones,
 -- else a vector), big-endian.
 use Rattle.def_standard.specs.Chunks.{wordBytes}
-use Rattle.xport.proofs.FlatLaws.{flat-listed}
+use Rattle.flat.proofs.FlatLaws.{flat-listed}
 use mathlib.Core.Path.{ap}
 use borrow.Author.Needs.{needs}
 use Rattle.xport.proofs.xr_chunk.Statement.{statement}

@@ -1,6 +1,6 @@
 -- `xport::xr_count` meets its contract: how many blocks a packet has.
 use Rattle.def_wire.specs.Packet.{countOf}
-use Rattle.xport.specs.Flat.{flatOf}
+use Rattle.flat.specs.Flat.{flatOf}
 use mathlib.Core.Path.{ap, _∙_}
 use borrow.Author.Needs.{needs}
 use Rattle.xport.proofs.xr_count.Statement.{statement}

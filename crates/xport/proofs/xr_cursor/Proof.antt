@@ -1,6 +1,6 @@
 -- `xport::xr_cursor` meets its contract: at most budget steps of the standard number cursor in block k, asked as type
 -- t (1 or 2).
-use Rattle.xport.proofs.FlatLaws.{flat-stretched}
+use Rattle.flat.proofs.FlatLaws.{flat-stretched}
 use borrow.Author.Needs.{needs}
 use Rattle.xport.proofs.xr_cursor.Statement.{statement}
 use Rattle.xport.proofs.xr_cursor.Tie as tie

@@ -1,6 +1,6 @@
 -- `xport::xr_entries` meets its contract: the entries of block k, of type 5.
 use Rattle.def_questions.specs.Packets.{entriesAsked}
-use Rattle.xport.proofs.FlatLaws.{flat-entries}
+use Rattle.flat.proofs.FlatLaws.{flat-entries}
 use mathlib.Core.Path.{ap}
 use borrow.Author.Needs.{needs}
 use Rattle.xport.proofs.xr_entries.Statement.{statement}

@@ -1,5 +1,5 @@
 -- `xport::xr_fields` meets its contract: the fields of block k, asked as type t (1, 2 or 3).
-use Rattle.xport.specs.Flat.{flatFields}
+use Rattle.flat.specs.Flat.{flatFields}
 use Rattle.def_questions.specs.ByNumber.{fieldsBy}
 use mathlib.Core.Path.{ap, _∙_}
 use borrow.Author.Needs.{needs}

@@ -1,6 +1,6 @@
 -- `xport::xr_locate` meets its contract: where block k's view begins in the packet, and how many bytes it has.
 use Rattle.def_wire.specs.Packet.{locate}
-use Rattle.xport.specs.Flat.{flatLocated}
+use Rattle.flat.specs.Flat.{flatLocated}
 use mathlib.Core.Path.{ap, _∙_}
 use borrow.Author.Needs.{needs}
 use Rattle.xport.proofs.xr_locate.Statement.{statement}

@@ -1,5 +1,5 @@
 -- `xport::xr_numbers_view` meets its contract: the numbers of a block's view, as xr_locate says where it lies.
-use Rattle.xport.proofs.FlatLaws.{flat-listed}
+use Rattle.flat.proofs.FlatLaws.{flat-listed}
 use Rattle.def_questions.specs.ByNumber.{numbersViewBy}
 use mathlib.Core.Path.{ap}
 use borrow.Author.Needs.{needs}

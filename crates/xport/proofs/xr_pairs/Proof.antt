@@ -1,6 +1,6 @@
 -- `xport::xr_pairs` meets its contract: the pairs of block k, of type 3, into two lists side by side.
 use Rattle.def_questions.specs.Packets.{pairsAsked}
-use Rattle.xport.proofs.FlatLaws.{flat-pairs}
+use Rattle.flat.proofs.FlatLaws.{flat-pairs}
 use mathlib.Core.Path.{ap}
 use borrow.Author.Needs.{needs}
 use Rattle.xport.proofs.xr_pairs.Statement.{statement}

@@ -1,6 +1,6 @@
 -- `xport::xr_time` meets its contract: the time of block k, of type 4.
 use Rattle.def_questions.specs.Packets.{timeAsked}
-use Rattle.xport.specs.Flat.{flatTime}
+use Rattle.flat.specs.Flat.{flatTime}
 use mathlib.Core.Path.{ap, _∙_}
 use borrow.Author.Needs.{needs}
 use Rattle.xport.proofs.xr_time.Statement.{statement}

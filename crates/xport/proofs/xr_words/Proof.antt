@@ -1,5 +1,5 @@
 -- `xport::xr_words` meets its contract: the chunk words of block k, asked as type t.
-use Rattle.xport.proofs.FlatLaws.{flat-listed}
+use Rattle.flat.proofs.FlatLaws.{flat-listed}
 use Rattle.def_questions.specs.ByNumber.{wordsBy}
 use mathlib.Core.Path.{ap}
 use borrow.Author.Needs.{needs}

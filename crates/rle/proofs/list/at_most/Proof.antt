@@ -5,7 +5,7 @@ use native.Mathlib.Omega.{arith}
 use borrow.Author.Needs.{needs}
 use lib.ListN.{length, drop}
 use Rattle.def_wire.specs.Bytes.{words16}
-use Rattle.rle.specs.Stops.{mostOf}
+use Rattle.rle.specs.Most.{mostOf}
 use Rattle.rle.proofs.CrateTurn.{most-end, most-next, most-fits}
 use Rattle.rle.proofs.list.at_most.Statement.{statement}
 use Rattle.rle.proofs.list.at_most.Tie as tie

@@ -19,9 +19,9 @@ use Rattle.laws.proofs.Filling.{Filling, start as begun, skip, moved as settled
 use Rattle.range.specs.Steps.{stepOf}
 use Rattle.range.specs.Failing.{firstFail}
 use Rattle.range.proofs.NextLaws.{next-same}
-use Rattle.rle.specs.Stops.{stopAt}
+use Rattle.ones.specs.Stops.{stopAt}
 use Rattle.rle.specs.Runs.{here}
-use Rattle.rle.proofs.WordLaws.{along-same}
+use Rattle.ones.proofs.WordLaws.{along-same}
 use Rattle.rle.proofs.Turn.{Turn, fill-room, fill-last, fill-next}
 use Rattle.rle.proofs.CrateTurn.{added, here-end, here-zeros, turn}
 use Rattle.rle.proofs.list.list_crate.Statement.{statement}

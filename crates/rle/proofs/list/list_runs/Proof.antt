@@ -8,7 +8,7 @@ use lib.ListN.{length}
 use Rattle.laws.proofs.Stores.{same}
 use Rattle.def_wire.specs.Bytes.{be16}
 use Rattle.def_crate.specs.Sequence.{movedBy}
-use Rattle.rle.specs.Along.{past}
+use Rattle.ones.specs.Along.{past}
 use Rattle.rle.specs.Runs.{Ran}
 use Rattle.rle.proofs.RunsTurn.{past-moved, Clear, clear-run, begun, room, turned}
 use Rattle.rle.proofs.list.list_runs.Statement.{statement}

@@ -18,9 +18,9 @@ use Rattle.def_crate.specs.Crate.{crateNumbersFrom}
 use Rattle.range.specs.Steps.{stepOf}
 use Rattle.range.specs.Failing.{firstFail}
 use Rattle.range.proofs.NextLaws.{next-same}
-use Rattle.rle.specs.Stops.{stopAt}
+use Rattle.ones.specs.Stops.{stopAt}
 use Rattle.rle.specs.Runs.{here}
-use Rattle.rle.proofs.WordLaws.{length-ones, along-same}
+use Rattle.ones.proofs.WordLaws.{length-ones, along-same}
 use Rattle.rle.proofs.Turn.{Turn, count-room, count-last, count-next}
 use Rattle.rle.proofs.CrateTurn.{added, length-here, here-end, here-zeros, turn}
 use Rattle.rle.proofs.list.tally_crate.Statement.{statement}

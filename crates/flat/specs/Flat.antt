@@ -1,0 +1,105 @@
+-- The library's answers as numbers, for callers in other languages. Each is a flat copy of an answer that a
+-- definition below gives.
+--     readingOf      which reading a number asks for
+--     flatOf ..      an answer as a code and two values: code 0 and what was found, or RULES' number of the
+--                    refusal and its two values
+use Prim.Native.Nat.{ℕ}
+use mathlib.Core.Bool.{cond}
+use lib.Dec.{eqb}
+use Rattle.def_refusals.specs.declared.Refusal.{Refusal}
+use Rattle.def_refusals.specs.declared.Numbered.{Numbered}
+use Rattle.def_refusals.specs.declared.Answer.{Answer}
+use Rattle.def_refusals.specs.declared.Answer.the-variants.{Done, Refused}
+use Rattle.def_refusals.specs.Numbers.{numbered}
+use Rattle.def_wire.specs.declared.Reading.{Reading}
+use Rattle.def_wire.specs.declared.Reading.the-variants.{Standard, Crate}
+use Rattle.def_wire.specs.declared.Located.{Located}
+use Rattle.def_wire.specs.declared.Located.the-variants.{At, Missing}
+use Rattle.def_wire.specs.declared.Fields.{Fields}
+use Rattle.def_wire.specs.declared.FieldsOr.{FieldsOr}
+use Rattle.def_wire.specs.declared.FieldsOr.the-variants.{Shown, NoneOf}
+use Rattle.def_wire.specs.declared.TimeOr.{TimeOr}
+use Rattle.def_wire.specs.declared.TimeOr.the-variants.{Time, NoTime}
+use Rattle.def_standard.specs.declared.Chunk.{Chunk}
+use Rattle.def_standard.specs.declared.Chunk.the-variants.{Null, Skip, Run, Vector}
+use Rattle.def_cursor.specs.declared.Stretch.{Stretch}
+use Rattle.def_cursor.specs.declared.Advanced.{Advanced}
+use Rattle.def_cursor.specs.declared.Advanced.the-variants.{Moved, Stuck}
+use Rattle.def_cursor.specs.Cursor.{start}
+use Rattle.flat.specs.declared.Flat.{Flat}
+use Rattle.flat.specs.declared.FlatStretch.{FlatStretch}
+use Rattle.flat.specs.declared.FlatFields.{FlatFields}
+
+-- 0 asks for the standard reading, anything else for the crate's
+unfoldable pub readingOf : ℕ → Reading
+readingOf r = cond (eqb r 0) Standard Crate
+
+-- what was found: code 0 and up to two values
+abbrev pub found : ℕ → ℕ → Flat
+found a b = record { code = 0; first = a; second = b }
+
+abbrev pub flatRow : Numbered → Flat
+flatRow n = record { code = n .number; first = n .first; second = n .second }
+
+-- a refusal's number and its two values
+abbrev pub flatRefusal : Refusal → Flat
+flatRefusal x = flatRow (numbered x)
+
+-- a count
+unfoldable pub flatOf : Answer → Flat
+flatOf (Done n) = found n 0
+flatOf (Refused x) = flatRefusal x
+
+-- where a view begins, and how many bytes it has
+unfoldable pub flatLocated : Located → Flat
+flatLocated (At at n) = found at n
+flatLocated (Missing x) = flatRefusal x
+
+-- a 64-bit time
+unfoldable pub flatTime : TimeOr → Flat
+flatTime (Time t) = found (t .0) 0
+flatTime (NoTime x) = flatRefusal x
+
+abbrev pub fieldsRow : Flat → Fields → FlatFields
+fieldsRow f g = record {
+  code = f .code;
+  first = f .first;
+  second = f .second;
+  ssrc = g .ssrc;
+  begin = g .begin;
+  end = g .end;
+  thinning = g .thinning;
+}
+
+abbrev pub noFields : Fields
+noFields = record { ssrc = 0; begin = 0; end = 0; thinning = 0 }
+
+-- a block's fields; all 0 where they are refused
+unfoldable pub flatFields : FieldsOr → FlatFields
+flatFields (Shown g) = fieldsRow (found 0 0) g
+flatFields (NoneOf x) = fieldsRow (flatRefusal x) noFields
+
+abbrev pub stretchRow : Flat → Stretch → FlatStretch
+stretchRow f t =
+    record {
+      code = f .code;
+      first = f .first;
+      second = f .second;
+      word = t .next .word;
+      place = t .next .place;
+      position = t .next .position;
+      taken = t .taken;
+      listed = t .listed;
+    }
+
+abbrev pub noStretch : Stretch
+noStretch = record { next = start; taken = 0; listed = 0 }
+
+-- a cursor's stretch; all 0 where it is refused
+unfoldable pub flatStretch : Advanced → FlatStretch
+flatStretch (Moved t) = stretchRow (found 0 0) t
+flatStretch (Stuck x) = stretchRow (flatRefusal x) noStretch
+
+-- a chunk word's kind by a number: 0 Null, 1 a run of zeros, 2 a run of ones, anything else a vector
+unfoldable pub chunkAsked : ℕ → ℕ → Chunk
+chunkAsked k value = cond (eqb k 0) Null (cond (eqb k 1) (Skip value) (cond (eqb k 2) (Run value) (Vector value)))

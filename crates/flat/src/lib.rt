@@ -1,0 +1,191 @@
+// The library's answers as numbers, for callers in other languages: each a flat copy of an answer.
+ghost use mathlib.Core.Path.{_≡_};
+ghost use Rattle.flat.specs.Flat.{readingOf, chunkAsked, flatRefusal, flatOf, flatLocated, flatFields};
+ghost use Rattle.flat.specs.Flat.{flatTime, flatStretch};
+use def_cursor::Advanced;
+use def_refusals::Answer;
+use def_refusals::Refusal;
+use def_standard::Chunk;
+use def_wire::FieldsOr;
+use def_wire::Located;
+use def_wire::LongTime;
+use def_wire::Reading;
+use def_wire::TimeOr;
+
+// Code 0 and what was found; or RULES' number of the refusal and its two values.
+#[repr(C)]
+pub struct Flat {
+    pub code: u32,
+    pub first: u64,
+    pub second: u64,
+}
+
+// The same with the fields of a block of type 1, 2 or 3 beside it, 0 where they are refused.
+#[repr(C)]
+pub struct FlatFields {
+    pub code: u32,
+    pub first: u64,
+    pub second: u64,
+    pub ssrc: u32,
+    pub begin: u16,
+    pub end: u16,
+    pub thinning: u8,
+}
+
+// The same with where a number cursor stands next, how many steps it took and how many numbers it listed, 0 where it
+// is refused.
+#[repr(C)]
+pub struct FlatStretch {
+    pub code: u32,
+    pub first: u64,
+    pub second: u64,
+    pub word: u64,
+    pub place: u64,
+    pub position: u64,
+    pub taken: u64,
+    pub listed: u64,
+}
+
+// The reading that a number asks for.
+pub fn reading(r: u8) -> Reading
+    ensures { λ a. ⌜ a ≡ readingOf r ⌝ }
+{
+    if r == 0 {
+        Reading::Standard
+    } else {
+        Reading::Crate
+    }
+}
+
+// The kind of chunk word that a number asks for.
+pub fn kind(k: u8, value: u32) -> Chunk
+    ensures { λ c. ⌜ c ≡ chunkAsked k value ⌝ }
+{
+    if k == 0 {
+        return Chunk::Null;
+    }
+    if k == 1 {
+        return Chunk::Skip(value);
+    }
+    if k == 2 {
+        return Chunk::Run(value);
+    }
+    Chunk::Vector(value)
+}
+
+// A refusal's number and its two values.
+pub fn refusal(x: Refusal) -> Flat
+    ensures { λ a. ⌜ a ≡ flatRefusal x ⌝ }
+{
+    let n = refusal_number::number(x);
+    Flat {
+        code: n.number as u32,
+        first: n.first as u64,
+        second: n.second as u64,
+    }
+}
+
+// A count.
+pub fn answer(a: Answer) -> Flat
+    ensures { λ f. ⌜ f ≡ flatOf a ⌝ }
+{
+    match a {
+        Answer::Done(n) => Flat {
+            code: 0,
+            first: n as u64,
+            second: 0,
+        },
+        Answer::Refused(x) => refusal(x),
+    }
+}
+
+// Where a view lies.
+pub fn located(a: Located) -> Flat
+    ensures { λ f. ⌜ f ≡ flatLocated a ⌝ }
+{
+    match a {
+        Located::At(at, n) => Flat {
+            code: 0,
+            first: at as u64,
+            second: n as u64,
+        },
+        Located::Missing(x) => refusal(x),
+    }
+}
+
+// A block's fields.
+pub fn fields(a: FieldsOr) -> FlatFields
+    ensures { λ f. ⌜ f ≡ flatFields a ⌝ }
+{
+    match a {
+        FieldsOr::Shown(g) => FlatFields {
+            code: 0,
+            first: 0,
+            second: 0,
+            ssrc: g.ssrc,
+            begin: g.begin,
+            end: g.end,
+            thinning: g.thinning,
+        },
+        FieldsOr::NoneOf(x) => {
+            let f = refusal(x);
+            FlatFields {
+                code: f.code,
+                first: f.first,
+                second: f.second,
+                ssrc: 0,
+                begin: 0,
+                end: 0,
+                thinning: 0,
+            }
+        }
+    }
+}
+
+// A 64-bit time.
+pub fn time(a: TimeOr) -> Flat
+    ensures { λ f. ⌜ f ≡ flatTime a ⌝ }
+{
+    match a {
+        TimeOr::Time(t) => Flat {
+            code: 0,
+            first: t.0,
+            second: 0,
+        },
+        TimeOr::NoTime(x) => refusal(x),
+    }
+}
+
+// A cursor's stretch.
+pub fn stretch(a: Advanced) -> FlatStretch
+    ensures { λ f. ⌜ f ≡ flatStretch a ⌝ }
+{
+    match a {
+        Advanced::Moved(t) => {
+            let next = t.next;
+            FlatStretch {
+                code: 0,
+                first: 0,
+                second: 0,
+                word: next.word as u64,
+                place: next.place as u64,
+                position: next.position as u64,
+                taken: t.taken as u64,
+                listed: t.listed as u64,
+            }
+        }
+        Advanced::Stuck(x) => {
+            let f = refusal(x);
+            FlatStretch {
+                code: f.code,
+                first: f.first,
+                second: f.second,
+                word: 0,
+                place: 0,
+                position: 0,
+                taken: 0,
+                listed: 0,
+            }
+        }
+    }
+}

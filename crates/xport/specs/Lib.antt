@@ -1,2 +1,0 @@
--- Flat: the library's answers as numbers.
-pub mod Flat
