@@ -1,3 +1,4 @@
 pub mod Lists
 pub mod WalkLaws
 pub mod RecordsLaws
+pub mod WordsLaws
