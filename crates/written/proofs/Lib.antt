@@ -2,3 +2,4 @@ pub mod Lists
 pub mod WalkLaws
 pub mod RecordsLaws
 pub mod WordsLaws
+pub mod BlockLaws
