@@ -3,3 +3,5 @@ pub mod WalkLaws
 pub mod RecordsLaws
 pub mod WordsLaws
 pub mod BlockLaws
+pub mod JobLaws
+pub mod HeaderLaws
