@@ -5,3 +5,4 @@ pub mod WordsLaws
 pub mod BlockLaws
 pub mod JobLaws
 pub mod HeaderLaws
+pub mod Shows

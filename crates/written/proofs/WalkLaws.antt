@@ -6,14 +6,18 @@
 use Prim.Native.Nat.{ℕ, zero, suc, _+_, _*_, _-_, _≤_, _<_}
 use mathlib.Core.Path.{_≡_, refl, sym, ap, _∙_}
 use mathlib.Core.List.{List, [], _∷_, _++_, append-assoc}
-use native.Mathlib.Nat.{add-zero, suc-add}
+use native.Mathlib.Nat.{add-zero, zero-add}
 use native.Mathlib.Omega.{arith}
 use lib.ListN.{length, getD, take, drop, length-append, length-drop, List·getD-append}
 use lib.Seq.{drop-cons, drop-drop, drop-append-seam, take-append-seam}
-use borrow.Author.Tests.{le-ltb, le-leb, lt-leb}
+use borrow.Author.Tests.{lt-ltb, le-ltb, le-leb, lt-leb}
 use Rattle.def_refusals.specs.declared.Answer.the-variants.{Done}
+use Rattle.def_refusals.specs.Answers.{shown}
+use Rattle.def_wire.specs.declared.Reading.{Reading}
+use Rattle.def_wire.specs.declared.Reading.the-variants.{Standard}
+use Rattle.def_wire.specs.declared.Located.the-variants.{At}
 use Rattle.def_wire.specs.Bytes.{be16}
-use Rattle.def_wire.specs.Packet.{lengthAt, placeOf, walkFrom, part}
+use Rattle.def_wire.specs.Packet.{lengthAt, placeOf, walkFrom, part, headerOf, countOf, sizeAt, locate, viewOf}
 use Rattle.utils.proofs.BytesLaws.{Same, be16-same, same-drop}
 use Rattle.written.proofs.Lists.{Each, each-at}
 
@@ -119,3 +123,27 @@ module _ (s rest : List ℕ) where
       pub block-part : part s (placeOf s k) (lengthAt s (placeOf s k)) ≡ getD bs k []
       block-part =
           rw (block-length, block-stands) (take-append-seam (getD bs k []) (joined (drop (suc k) bs) ++ rest))
+
+-- ---- the count and the views
+
+-- a packet whose blocks end where its header says
+pub count-blocks : (r : Reading) (s rest : List ℕ) (bs : List (List ℕ)) (stop : ℕ) → headerOf r s ≡ Done stop
+    → stop ≡ 8 + length (joined bs) → Each Announces bs → Stands s 8 bs rest → countOf r s ≡ Done (length bs)
+unfolding countOf
+count-blocks r s rest bs stop h e a w =
+    let j : 4 * length bs ≤ length (joined bs) = length-joined bs a in
+    let d : length s - 8 ≡ length (joined bs ++ rest) = sym (length-drop 8 s) ∙ ap length w in
+    let l : length (joined bs ++ rest) ≡ length (joined bs) + length rest = length-append (joined bs) rest in
+    rw h
+    (walk-blocks s rest bs stop 8 0 (length s) (length s - length bs) w a (omega arith) (omega arith)
+    ∙ walk-end s stop (8 + length (joined bs)) (0 + length bs) (length s - length bs) (omega arith) ∙ rw zero-add)
+
+pub locate-block : (r : Reading) (s : List ℕ) (n k : ℕ) → countOf r s ≡ Done n → k < n
+    → locate r s k ≡ At (placeOf s k) (sizeAt r s (placeOf s k))
+unfolding locate
+locate-block r s n k c h = rw (c, lt-ltb _ _ h)
+
+pub view-block : (s rest : List ℕ) (bs : List (List ℕ)) (k : ℕ) → countOf Standard s ≡ Done (length bs)
+    → Each Announces bs → Stands s 8 bs rest → k < length bs → viewOf Standard s k ≡ shown (getD bs k [])
+view-block s rest bs k c a e h =
+    rw (locate-block Standard s (length bs) k c h) (ap shown (block-part s rest bs a e k h))
