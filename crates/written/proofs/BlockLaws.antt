@@ -2,13 +2,12 @@
 -- nothing.
 --     Laid           a block v that shows r
 --     rle-laid, times-laid, clock-laid, echoes-laid     the blocks of each kind
-use Prim.Native.Nat.{ℕ, suc, _+_, _-_, _*_, _/_, _%_, _≤_, _<_, _^_}
-use mathlib.Core.Path.{_≡_, refl, ap, _∙_}
+use Prim.Native.Nat.{ℕ, _+_, _-_, _/_, _%_, _≤_, _<_, _^_}
+use mathlib.Core.Path.{_≡_, refl, ap}
 use mathlib.Core.List.{List, [], _++_}
 use native.Mathlib.Nat.{mod-eq-of-lt}
 use native.Mathlib.Omega.{arith}
 use lib.ListN.{length}
-use lib.Dec.{lit<, lit≤}
 use borrow.Author.Tests.{eq-eqb, le-leb}
 use Rattle.def_refusals.specs.declared.Checked.the-variants.{Fine}
 use Rattle.def_refusals.specs.Answers.{shown}
@@ -18,11 +17,11 @@ use Rattle.def_wire.specs.declared.Rle.the-variants.{Loss, Duplicate}
 use Rattle.def_wire.specs.declared.Ranged.{Ranged}
 use Rattle.def_wire.specs.declared.Ranged.the-variants.{Chunks, Times}
 use Rattle.def_wire.specs.declared.Kind.{Kind}
-use Rattle.def_wire.specs.declared.Kind.the-variants.{Spans, Clock, Echoes}
+use Rattle.def_wire.specs.declared.Kind.the-variants.{Spans, Echoes}
 use Rattle.def_wire.specs.declared.KindOr.the-variants.{AKind}
 use Rattle.def_wire.specs.declared.Fields.{Fields}
 use Rattle.def_wire.specs.Bytes.{words16, words32, two, four, eight}
-use Rattle.def_wire.specs.Block.{typeOf, fieldsAt, kindType, rangedType, rleType, receiptType, clockType, echoType}
+use Rattle.def_wire.specs.Block.{typeOf, fieldsAt, kindType, rleType, receiptType, clockType, echoType}
 use Rattle.def_wire.specs.Block.{rleOf, rangedOf, kindOf, standardRule, fitness, checkOf, fieldsOf, timeOf}
 use Rattle.def_standard.specs.Range.{rangeOf}
 use Rattle.def_standard.specs.Standard.{numbersOf, pairsOf, echoesOf}

@@ -1,11 +1,11 @@
 -- The header of a packet of n bytes of padding, the sender x and blocks: it is accepted, and the blocks end before the
 -- padding. Assumes nothing.
-use Prim.Native.Nat.{ℕ, zero, suc, _+_, _*_, _-_, _/_, _%_, _≤_, _<_}
+use Prim.Native.Nat.{ℕ, zero, suc, _+_, _-_, _/_, _%_, _≤_, _<_}
 use mathlib.Core.Path.{_≡_, refl, _∙_}
 use mathlib.Core.Bool.{true, false, cond}
 use mathlib.Core.List.{List, [], _∷_, _++_}
 use native.Mathlib.Omega.{arith}
-use lib.ListN.{length, replicate, drop, length-append, length-replicate}
+use lib.ListN.{length, replicate, length-append, length-replicate}
 use lib.Dec.{eqb·suc-zero}
 use borrow.Author.Tests.{eq-eqb, ne-eqb, le-ltb}
 use Rattle.def_refusals.specs.declared.Answer.the-variants.{Done}
@@ -73,7 +73,8 @@ fine-padding : (n x : ℕ) (blocks : List ℕ) → n % 4 ≡ 0
 fine-padding zero x blocks p = refl
 fine-padding (suc n) x blocks p =
     rw (padded-around n x blocks, last-around n x blocks)
-    (good-padding (suc n) (length (around (suc n) x blocks)) (omega arith) p (omega (arith, length-around (suc n) x blocks)))
+    (good-padding (suc n) (length (around (suc n) x blocks)) (omega arith) p
+    (omega (arith, length-around (suc n) x blocks)))
 
 header-accepted : (r : Reading) (s : List ℕ) → leastOf r ≤ length s → versionOf s ≡ 2 → byteAt s 1 ≡ 207
     → announcedOf s ≡ length s → cond (isPadded s) (isBadPadding (paddingOf s) (length s)) false ≡ false

@@ -1,18 +1,18 @@
 -- The block of a good record is laid as the record asks, for each kind. Assumes nothing.
-use Prim.Native.Nat.{ℕ, _+_, _*_, _-_, _%_, _≤_, _<_, _^_}
+use Prim.Native.Nat.{ℕ, _+_, _%_, _<_, _^_}
 use mathlib.Core.Path.{_≡_}
-use mathlib.Core.Bool.{true, _&&_}
+use mathlib.Core.Bool.{true}
 use mathlib.Core.List.{List}
 use native.Mathlib.Omega.{arith}
-use lib.ListN.{length, drop, length-drop}
-use lib.Dec.{leb, eqb}
+use lib.ListN.{length, drop}
+use lib.Dec.{leb}
 use borrow.Author.Tests.{leb-true, eqb-true}
 use Rattle.laws.proofs.Tests.{and-true, true≢false}
 use Rattle.def_wire.specs.declared.Ranged.the-variants.{Chunks, Times}
 use Rattle.def_wire.specs.declared.Kind.the-variants.{Spans, Clock, Echoes}
 use Rattle.def_wire.specs.declared.KindOr.{KindOr}
 use Rattle.def_wire.specs.declared.KindOr.the-variants.{AKind, NoKind}
-use Rattle.def_wire.specs.Bytes.{byteAt, four}
+use Rattle.def_wire.specs.Bytes.{four}
 use Rattle.def_wire.specs.Block.{kindOf}
 use Rattle.def_standard.specs.Range.{rangeOf}
 use Rattle.def_jobs.specs.declared.Layout.{Layout}

@@ -3,7 +3,7 @@
 --     Under, under-take, ..      numbers below a bound (`Bytes` is `Under 256`), also in a part
 --     last-behind                the last byte of a list with a front before it
 use Prim.Native.Nat.{ℕ, zero, suc, _+_, _-_, _<_}
-use mathlib.Core.Path.{_≡_, refl, _∙_}
+use mathlib.Core.Path.{_≡_}
 use mathlib.Core.List.{List, [], _∷_, _++_}
 use native.Mathlib.Omega.{arith}
 use lib.ListN.{length, getD, take, drop, length-append}

@@ -1,22 +1,22 @@
 -- A packet that is written: its records are good, it is their layout, and their bodies are bytes. Assumes nothing.
 use Prim.Native.Nat.{ℕ, zero, suc, _+_, _-_, _≤_}
-use mathlib.Core.Path.{_≡_, refl, sym, _∙_}
-use mathlib.Core.Bool.{Bool, true, false, cond}
+use mathlib.Core.Path.{_≡_, refl, sym}
+use mathlib.Core.Bool.{true}
 use mathlib.Core.List.{List, [], _∷_}
 use native.Mathlib.Omega.{arith}
-use lib.ListN.{length, take, drop}
+use lib.ListN.{length, drop}
 use lib.Dec.{leb, ltb, lit<}
 use borrow.Author.Tests.{ltb-false}
-use Rattle.laws.proofs.Tests.{by-test, either}
+use Rattle.laws.proofs.Tests.{by-test, both}
 use Rattle.def_refusals.specs.declared.Checked.{Checked}
 use Rattle.def_refusals.specs.declared.Checked.the-variants.{Fine, Unfit}
 use Rattle.def_refusals.specs.declared.Refusal.{Refusal}
-use Rattle.def_refusals.specs.Answers.{Or, shown, refused, onFine, thenCheck}
+use Rattle.def_refusals.specs.Answers.{shown, refused, onFine, thenCheck}
 use Rattle.def_jobs.specs.declared.Layout.{Layout}
-use Rattle.def_jobs.specs.Jobs.{Job, le32, isWhole, jobAt, cutJob, jobsFrom, jobsOf, isHeaderJob, isBlockJob, isGood}
+use Rattle.def_jobs.specs.Jobs.{Job, le32, isWhole, jobAt, jobsFrom, jobsOf, isHeaderJob, isBlockJob}
 use Rattle.def_jobs.specs.Jobs.{jobsFault}
 use Rattle.def_jobs.specs.Layout.{layoutOf}
-use Rattle.def_jobs.specs.Writing.{maxBlocks, maxBytes, sizeFault, misleadFault, writeFault, packetOf}
+use Rattle.def_jobs.specs.Writing.{maxBlocks, maxBytes, sizeFault, writeFault, packetOf}
 use Rattle.utils.proofs.BytesLaws.{Bytes}
 use Rattle.written.proofs.Lists.{Each, under-take, under-drop}
 
@@ -32,14 +32,10 @@ bodies-from : (fuel : ℕ) (s : List ℕ) → Bytes s → Each Body (jobsFrom fu
 unfolding jobsFrom
 bodies-from zero s h = tt
 bodies-from (suc fuel) s h =
-    choose (λ (l : List Job). Each Body l) (isWhole s)
-    (body-at s h, choose (λ (l : List Job). Each Body l) (leb (length s) (6 + le32 s 0)) tt
-    (bodies-from fuel (drop (6 + le32 s 0) s) (under-drop 256 (6 + le32 s 0) s h)))
-    ((λ i. lit< tt), tt)
-  where
-    choose : {A : Type 0} (P : A → Type 0) (b : Bool) {x y : A} → P x → P y → P (cond b x y)
-    choose P true p q = p
-    choose P false p q = q
+    let behind = bodies-from fuel (drop (6 + le32 s 0) s) (under-drop 256 (6 + le32 s 0) s h) in
+    both (Each Body) (isWhole s)
+    (λ _. (body-at s h, both (Each Body) (leb (length s) (6 + le32 s 0)) (λ _. tt) (λ _. behind)))
+    (λ _. ((λ i. lit< tt), tt))
 
 pub bodies : (list : List ℕ) → Bytes list → Each Body (jobsOf list)
 bodies list h = bodies-from (suc (length list)) list h

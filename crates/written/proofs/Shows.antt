@@ -1,12 +1,12 @@
 -- A written packet shows what its records ask. Assumes nothing.
-use Prim.Native.Nat.{ℕ, suc, _+_, _-_, _%_, _≤_, _<_}
-use mathlib.Core.Path.{_≡_, refl, sym, ap, _∙_}
+use Prim.Native.Nat.{ℕ, _+_, _%_, _≤_, _<_}
+use mathlib.Core.Path.{_≡_, refl, ap, _∙_}
 use mathlib.Core.Bool.{true}
 use mathlib.Core.List.{List, [], _∷_, _++_, map}
 use native.Mathlib.Numerals.{add-one}
 use native.Mathlib.Omega.{arith}
 use lib.ListN.{length, getD, drop, length-append, length-map, List·getD-map}
-use lib.Dec.{leb, eqb}
+use lib.Dec.{eqb}
 use borrow.Author.Tests.{eqb-true}
 use Rattle.laws.proofs.Tests.{and-true}
 use Rattle.def_refusals.specs.declared.Answer.the-variants.{Done}
@@ -15,13 +15,12 @@ use Rattle.def_wire.specs.declared.Reading.the-variants.{Standard}
 use Rattle.def_wire.specs.Packet.{headerOf, countOf, viewOf}
 use Rattle.def_wire.specs.Block.{rleOf, rangedOf, kindOf}
 use Rattle.def_jobs.specs.declared.Layout.{Layout}
-use Rattle.def_jobs.specs.Shown.{recordOf}
 use Rattle.def_jobs.specs.Jobs.{Job, cutJob, jobsOf, headerKind, senderOf, askedPadding, isHeaderJob, isBlockJob}
 use Rattle.def_jobs.specs.Jobs.{askedOf}
 use Rattle.def_jobs.specs.Layout.{paddingBytes, blockBytes, blocksBytes, layoutOf}
 use Rattle.def_jobs.specs.Writing.{maxBytes, packetOf, shownIn}
 use Rattle.utils.proofs.BytesLaws.{Bytes}
-use Rattle.written.specs.Shows.{recordAt, blocksIn, Shows}
+use Rattle.written.specs.Shows.{blocksIn, Shows}
 use Rattle.written.proofs.Lists.{Each, each-at}
 use Rattle.written.proofs.WalkLaws.{joined, Announces, count-blocks, view-block}
 use Rattle.written.proofs.RecordsLaws.{Body, bodies, Written, written, some-record}

@@ -8,7 +8,7 @@ use mathlib.Core.Path.{_≡_, refl, sym, ap, _∙_}
 use mathlib.Core.List.{List, [], _∷_, _++_, append-assoc}
 use native.Mathlib.Nat.{add-zero, zero-add}
 use native.Mathlib.Omega.{arith}
-use lib.ListN.{length, getD, take, drop, length-append, length-drop, List·getD-append}
+use lib.ListN.{length, getD, drop, length-append, length-drop, List·getD-append}
 use lib.Seq.{drop-cons, drop-drop, drop-append-seam, take-append-seam}
 use borrow.Author.Tests.{lt-ltb, le-ltb, le-leb, lt-leb}
 use Rattle.def_refusals.specs.declared.Answer.the-variants.{Done}
@@ -84,7 +84,7 @@ module _ (s rest : List ℕ) where
       → g ≡ length bs + f → at + length (joined bs) ≤ stop
       → walkFrom s stop g at n ≡ walkFrom s stop f (at + length (joined bs)) (n + length bs)
   walk-blocks [] stop at n g f e a k h =
-      let i : g ≡ f = omega arith in rw (i, add-zero, add-zero)
+      let i : g ≡ f = omega arith in rw (i, add-zero at, add-zero n)
   walk-blocks (b ∷ bs) stop at n g f e a k h =
       let l : lengthAt s at ≡ length b = length-stands s at b (joined bs ++ rest) (a .0)
       (e ∙ append-assoc b (joined bs) rest) in
@@ -116,8 +116,8 @@ module _ (s rest : List ℕ) where
 
       pub block-length : lengthAt s (placeOf s k) ≡ length (getD bs k [])
       block-length =
-          length-stands s (placeOf s k) (getD bs k []) (joined (drop (suc k) bs) ++ rest) (each-at Announces [] bs k a h)
-          block-stands
+          length-stands s (placeOf s k) (getD bs k []) (joined (drop (suc k) bs) ++ rest)
+          (each-at Announces [] bs k a h) block-stands
 
       -- its own bytes
       pub block-part : part s (placeOf s k) (lengthAt s (placeOf s k)) ≡ getD bs k []

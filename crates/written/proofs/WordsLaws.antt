@@ -1,16 +1,14 @@
 -- The words, times and entries of a record's body, written as bytes and read back. Assumes nothing.
---     under-low16, under-low32, length-pairLow     a body's numbers, their bounds and their count
---     words16-bytes, words32-bytes                 their bytes read back; the zero words behind words stay
+--     under-low16, under-low32, length-low32       a body's numbers, their bounds and their count
+--     words16-bytes, words32-bytes                 their bytes read back
 --     length-two, length-four                      how many bytes they are
---     numbers-behind                               zero words behind show nothing
---     words-even                                   with them the words are whole 32-bit words
-use Prim.Native.Nat.{ℕ, zero, suc, _+_, _*_, _/_, _%_, _≤_, _<_}
-use mathlib.Core.Path.{_≡_, refl, sym, ap, _∙_}
-use mathlib.Core.Bool.{cond}
+--     block-words, numbers-behind, words-even      a block's words: the record's and zero words, which show nothing
+use Prim.Native.Nat.{ℕ, zero, suc, _+_, _*_, _/_, _%_, _<_}
+use mathlib.Core.Path.{_≡_, refl, ap, _∙_}
 use mathlib.Core.List.{List, [], _∷_, _++_}
 use native.Mathlib.Nat.{add-comm}
 use native.Mathlib.Omega.{arith}
-use lib.ListN.{length, getD, drop, replicate, length-append, length-replicate}
+use lib.ListN.{length, replicate, length-append, length-replicate}
 use lib.Arith.{digits-lt}
 use lib.Dec.{lit<, eqb}
 use borrow.Author.Tests.{eqb-true, eqb-false}
@@ -75,38 +73,52 @@ length-four (t ∷ ts) = let e = length-four ts in omega arith
 
 -- ---- zero words behind
 
-values-zeros : (z : ℕ) → valuesOf (words16 (replicate (2 * z) 0)) ≡ []
-unfolding pairUp valuesOf valuesIn
+words16-zeros : (z : ℕ) → words16 (replicate (2 * z) 0) ≡ replicate z 0
+unfolding pairUp
+words16-zeros zero = refl
+words16-zeros (suc z) =
+    let e : 2 * suc z ≡ suc (suc (2 * z)) = omega arith in rw e (ap (λ (l : List ℕ). 0 ∷ l) (words16-zeros z))
+
+-- a block's words: the record's, and the zero words behind them
+pub block-words : (layout : Layout) (ws : List ℕ) → Under 65536 ws
+    → words16 (wordsBytes layout ws) ≡ ws ++ replicate (zerosBehind layout ws) 0
+block-words layout ws h =
+    words16-bytes ws (replicate (2 * zerosBehind layout ws) 0) h
+    ∙ ap (λ (l : List ℕ). ws ++ l) (words16-zeros (zerosBehind layout ws))
+
+values-zeros : (z : ℕ) → valuesOf (replicate z 0) ≡ []
+unfolding valuesOf valuesIn
 values-zeros zero = refl
-values-zeros (suc z) = let e : 2 * suc z ≡ suc (suc (2 * z)) = omega arith in rw e (values-zeros z)
+values-zeros (suc z) = values-zeros z
 
-values-behind : (ws zs : List ℕ) → valuesOf zs ≡ [] → valuesOf (ws ++ zs) ≡ valuesOf ws
+values-behind : (ws : List ℕ) (z : ℕ) → valuesOf (ws ++ replicate z 0) ≡ valuesOf ws
 unfolding valuesOf
-values-behind [] zs e = e
-values-behind (w ∷ ws) zs e = ap (λ (l : List ℕ). valuesIn w ++ l) (values-behind ws zs e)
+values-behind [] z = values-zeros z
+values-behind (w ∷ ws) z = ap (λ (l : List ℕ). valuesIn w ++ l) (values-behind ws z)
 
--- a block's words show what the record's words show
+-- they show what the record's words show
 pub numbers-behind : (layout : Layout) (g : Range) (ws : List ℕ) → Under 65536 ws
     → numbersOf g (words16 (wordsBytes layout ws)) ≡ numbersOf g ws
 unfolding numbersFrom
-numbers-behind layout g ws h =
-    rw (words16-bytes ws (replicate (2 * zerosBehind layout ws) 0) h,
-    values-behind ws (words16 (replicate (2 * zerosBehind layout ws) 0)) (values-zeros (zerosBehind layout ws)))
+numbers-behind layout g ws h = rw (block-words layout ws h, values-behind ws (zerosBehind layout ws))
 
--- with the zero words behind them the words are whole 32-bit words
+-- and are whole 32-bit words
 zeros-even : (layout : Layout) (ws : List ℕ) → (length ws + zerosBehind layout ws) % 2 ≡ 0
 unfolding zerosBehind
 zeros-even Plain ws =
-    both (λ (z : ℕ). (length ws + z) % 2 ≡ 0) (isOdd ws)
-    (λ t. let n : length ws % 2 ≡ 1 = eqb-true _ _ t in omega arith) (λ f. let n : length ws % 2 ≡ 1 → ⊥ = eqb-false _ _ f in omega arith)
+    both (λ (z : ℕ). (length ws + z) % 2 ≡ 0) (isOdd ws) (λ t. omega (arith, eqb-true (length ws % 2) 1 t))
+    (λ f. omega (arith, eqb-false (length ws % 2) 1 f))
 zeros-even Careful ws =
-    both (λ (z : ℕ). (length ws + z) % 2 ≡ 0) (isOdd ws)
-    (λ t. let n : length ws % 2 ≡ 1 = eqb-true _ _ t in omega arith)
-    (λ f. let n : length ws % 2 ≡ 1 → ⊥ = eqb-false _ _ f in
-    both (λ (z : ℕ). (length ws + z) % 2 ≡ 0) (eqb (lastWord ws) 0) (λ _. omega arith) (λ _. omega arith))
+    both (λ (z : ℕ). (length ws + z) % 2 ≡ 0) (isOdd ws) (λ t. omega (arith, eqb-true (length ws % 2) 1 t))
+    (λ f. both (λ (z : ℕ). (length ws + z) % 2 ≡ 0) (eqb (lastWord ws) 0)
+    (λ _. omega (arith, eqb-false (length ws % 2) 1 f)) (λ _. omega (arith, eqb-false (length ws % 2) 1 f)))
 
 pub words-even : (layout : Layout) (ws : List ℕ) → length (wordsBytes layout ws) % 4 ≡ 0
 words-even layout ws =
-    omega
-    (arith, length-append (bytesOf two ws) (replicate (2 * zerosBehind layout ws) 0), length-two ws,
-    length-replicate {A = ℕ} (2 * zerosBehind layout ws) 0, zeros-even layout ws)
+    omega (
+      arith,
+      length-append (bytesOf two ws) (replicate (2 * zerosBehind layout ws) 0),
+      length-two ws,
+      length-replicate {A = ℕ} (2 * zerosBehind layout ws) 0,
+      zeros-even layout ws,
+    )
