@@ -45,7 +45,7 @@ bodies list h = bodies-from (suc (length list)) list h
 no-fault : {P : Type 0} {x : Refusal} → Unfit x ≡ Fine → P
 no-fault {x = x} e = absurd (let z : _≡_ {A = ℕ} 0 1 = cc in omega arith)
 
-not-shown : {P : Type 0} {A : Type 0} {x : Refusal} {a : A} → refused x ≡ shown a → P
+pub not-shown : {P A : Type 0} {x : Refusal} {a : A} → refused x ≡ shown a → P
 not-shown {x = x} {a = a} e = absurd (let z : _≡_ {A = ℕ} 0 1 = cc in omega arith)
 
 then-fine : (a b : Checked) → thenCheck a b ≡ Fine → (a ≡ Fine) × (b ≡ Fine)
