@@ -1,6 +1,9 @@
--- A packet that is written: its records are good, it is their layout, and their bodies are bytes. Assumes nothing.
+-- The records of a job list: their bodies are bytes, and those that 12 and 14 let pass are good. Assumes nothing.
+--     Body, bodies     a record's body is bytes, where the list is
+--     Good, Fit        a record that asks for a block; records that 12 and 14 let pass, laid out
+--     written          a packet that is written is the layout of such records
 use Prim.Native.Nat.{ℕ, zero, suc, _+_, _-_, _≤_}
-use mathlib.Core.Path.{_≡_, refl, sym}
+use mathlib.Core.Path.{_≡_, refl}
 use mathlib.Core.Bool.{true}
 use mathlib.Core.List.{List, [], _∷_}
 use native.Mathlib.Omega.{arith}
@@ -56,43 +59,55 @@ on-fine : {A : Type 0} (c : Checked) (a s : A) → onFine c (shown a) ≡ shown 
 on-fine Fine a s e = (refl, cc)
 on-fine (Unfit x) a s e = not-shown e
 
--- all behind the first ask for blocks
-good-blocks : (i : ℕ) (js : List Job) → jobsFault (suc i) js ≡ Fine → Each (λ (j : Job). isBlockJob j ≡ true) js
+-- a record that asks for a block
+abbrev pub Good : Job → Type 0
+Good j = isBlockJob j ≡ true
+
+-- all behind the first do
+good-blocks : (i : ℕ) (js : List Job) → jobsFault (suc i) js ≡ Fine → Each Good js
 unfolding jobsFault
 good-blocks i [] e = tt
 good-blocks i (j ∷ js) e =
     by-test (isBlockJob j) (λ g d. (g, good-blocks (suc i) js d)) (λ _ d. no-fault d) e
 
--- a packet that was written
-pub record Written (layout : Layout) (h : Job) (js : List Job) (s : List ℕ) : Type 0 where
-  pub laid : s ≡ layoutOf layout (h ∷ js)
-  pub header : isHeaderJob h ≡ true
-  pub blocks : Each (λ (j : Job). isBlockJob j ≡ true) js
-  pub few : length js ≤ maxBlocks
-  pub small : length s ≤ maxBytes
+good-jobs : (h : Job) (js : List Job) → jobsFault 0 (h ∷ js) ≡ Fine → (isHeaderJob h ≡ true) × Each Good js
+unfolding jobsFault
+good-jobs h js = by-test (isHeaderJob h) (λ a d. (a, good-blocks 0 js d)) (λ _ d. no-fault d)
 
 small-size : (n bytes : ℕ) → sizeFault n bytes ≡ Fine → (n ≤ maxBlocks) × (bytes ≤ maxBytes)
 small-size n bytes =
     by-test (ltb maxBlocks n) (λ _ d. no-fault d)
     (λ a. by-test (ltb maxBytes bytes) (λ _ d. no-fault d) (λ b _. (ltb-false _ _ a, ltb-false _ _ b)))
 
-pub written : (layout : Layout) (list : List ℕ) (h : Job) (js : List Job) (s : List ℕ) → jobsOf list ≡ h ∷ js
-    → packetOf layout list ≡ shown s → Written layout h js s
-unfolding packetOf writeFault jobsFault
-written layout list h js s k e =
-    let w = on-fine (writeFault layout (h ∷ js)) (layoutOf layout (h ∷ js)) s (rw k at e) in
-    let f = then-fine (jobsFault 0 (h ∷ js)) _ (w .0) in
-    let g = then-fine (sizeFault (length (h ∷ js) - 1) (length (layoutOf layout (h ∷ js)))) _ (f .1) in
-    let z = small-size (length (h ∷ js) - 1) (length (layoutOf layout (h ∷ js))) (g .0) in
-    let j : (isHeaderJob h ≡ true) × Each (λ (j : Job). isBlockJob j ≡ true) js =
-    by-test (isHeaderJob h) (λ a d. (a, good-blocks 0 js d)) (λ _ d. no-fault d) (f .0) in
-    record {
-      laid = sym (w .1);
-      header = j .0;
-      blocks = j .1;
-      few = omega arith;
-      small = rw (← (w .1)) (z .1);
-    }
+-- 14 of records in a layout
+abbrev pub layoutFault : Layout → List Job → Checked
+layoutFault layout js = sizeFault (length js - 1) (length (layoutOf layout js))
+
+-- records that 12 and 14 let pass, laid out as the packet s
+pub record Fit (layout : Layout) (h : Job) (js : List Job) (s : List ℕ) : Type 0 where
+  pub laid : s ≡ layoutOf layout (h ∷ js)
+  pub header : isHeaderJob h ≡ true
+  pub blocks : Each Good js
+  pub few : length js ≤ maxBlocks
+  pub small : length s ≤ maxBytes
+
+pub fit : (layout : Layout) (h : Job) (js : List Job) → jobsFault 0 (h ∷ js) ≡ Fine → layoutFault layout (h ∷ js) ≡ Fine
+    → Fit layout h js (layoutOf layout (h ∷ js))
+fit layout h js f g =
+    let j = good-jobs h js f in
+    let z = small-size (length (h ∷ js) - 1) (length (layoutOf layout (h ∷ js))) g in
+    record { laid = refl; header = j .0; blocks = j .1; few = omega arith; small = z .1 }
+
+-- a packet that is written is the layout of records that 12 and 14 let pass
+pub written : (layout : Layout) (list s : List ℕ) → packetOf layout list ≡ shown s
+    → (jobsFault 0 (jobsOf list) ≡ Fine) × (layoutFault layout (jobsOf list) ≡ Fine)
+    × (layoutOf layout (jobsOf list) ≡ s)
+unfolding packetOf writeFault
+written layout list s e =
+    let w = on-fine (writeFault layout (jobsOf list)) (layoutOf layout (jobsOf list)) s e in
+    let f = then-fine (jobsFault 0 (jobsOf list)) _ (w .0) in
+    let g = then-fine (layoutFault layout (jobsOf list)) _ (f .1) in
+    (f .0, g .0, w .1)
 
 -- a list has a first record
 pub some-record : (list : List ℕ) → jobsOf list ≡ [] → ⊥

@@ -1,6 +1,8 @@
 -- A written packet shows what its records ask. Assumes nothing.
+--     layout-shows      of the layout of records that 12 and 14 let pass
+--     written-shows     of a packet that is written
 use Prim.Native.Nat.{ℕ, _+_, _%_, _≤_, _<_}
-use mathlib.Core.Path.{_≡_, refl, ap, _∙_}
+use mathlib.Core.Path.{_≡_, refl, ap, subst, _∙_}
 use mathlib.Core.Bool.{true}
 use mathlib.Core.List.{List, [], _∷_, _++_, map}
 use native.Mathlib.Numerals.{add-one}
@@ -10,25 +12,23 @@ use lib.Dec.{eqb}
 use borrow.Author.Tests.{eqb-true}
 use Rattle.laws.proofs.Tests.{and-true}
 use Rattle.def_refusals.specs.declared.Answer.the-variants.{Done}
+use Rattle.def_refusals.specs.declared.Checked.the-variants.{Fine}
 use Rattle.def_refusals.specs.Answers.{shown}
 use Rattle.def_wire.specs.declared.Reading.the-variants.{Standard}
 use Rattle.def_wire.specs.Packet.{headerOf, countOf, viewOf}
 use Rattle.def_wire.specs.Block.{rleOf, rangedOf, kindOf}
 use Rattle.def_jobs.specs.declared.Layout.{Layout}
-use Rattle.def_jobs.specs.Jobs.{Job, cutJob, jobsOf, headerKind, senderOf, askedPadding, isHeaderJob, isBlockJob}
-use Rattle.def_jobs.specs.Jobs.{askedOf}
+use Rattle.def_jobs.specs.Jobs.{Job, cutJob, jobsOf, headerKind, senderOf, askedPadding, isHeaderJob}
+use Rattle.def_jobs.specs.Jobs.{jobsFault, askedOf}
 use Rattle.def_jobs.specs.Layout.{paddingBytes, blockBytes, blocksBytes, layoutOf}
 use Rattle.def_jobs.specs.Writing.{maxBytes, packetOf, shownIn}
 use Rattle.utils.proofs.BytesLaws.{Bytes}
 use Rattle.written.specs.Shows.{blocksIn, Shows}
 use Rattle.written.proofs.Lists.{Each, each-at}
 use Rattle.written.proofs.WalkLaws.{joined, Announces, count-blocks, view-block}
-use Rattle.written.proofs.RecordsLaws.{Body, bodies, Written, written, some-record}
+use Rattle.written.proofs.RecordsLaws.{Body, bodies, Good, layoutFault, Fit, fit, written, some-record}
 use Rattle.written.proofs.JobLaws.{le32-lt, block-laid}
 use Rattle.written.proofs.HeaderLaws.{around, length-around, sender-around, header-around, stop-around}
-
-abbrev Good : Job → Type 0
-Good j = isBlockJob j ≡ true
 
 -- ---- the blocks of good records
 
@@ -68,7 +68,7 @@ header-padding h e =
 
 -- ---- the packet
 
-module _ (layout : Layout) (h : Job) (js : List Job) (s : List ℕ) (w : Written layout h js s) (bh : Body h)
+module _ (layout : Layout) (h : Job) (js : List Job) (s : List ℕ) (w : Fit layout h js s) (bh : Body h)
     (b : Each Body js) where
   abbrev bs : List (List ℕ)
   bs = blocksOf layout js
@@ -129,13 +129,20 @@ module _ (layout : Layout) (h : Job) (js : List Job) (s : List ℕ) (w : Written
         shows = λ k l. rw add-one (shown-at k (omega (arith, l, e)));
       }
 
+-- records that 12 and 14 let pass show what they ask, also where 15 does not
+pub layout-shows : (layout : Layout) (list : List ℕ) → Bytes list → jobsFault 0 (jobsOf list) ≡ Fine
+    → layoutFault layout (jobsOf list) ≡ Fine → Shows layout (jobsOf list) (layoutOf layout (jobsOf list))
+layout-shows layout list b = by-first (jobsOf list) (some-record list) (bodies list b)
+  where
+    by-first : (js : List Job) → (js ≡ [] → ⊥) → Each Body js → jobsFault 0 js ≡ Fine → layoutFault layout js ≡ Fine
+        → Shows layout js (layoutOf layout js)
+    by-first [] k b f g = absurd (k refl)
+    by-first (h ∷ js) k b f g =
+        packet-shows layout h js (layoutOf layout (h ∷ js)) (fit layout h js f g) (b .0) (b .1)
+
 -- whatever is written shows what its records ask
 pub written-shows : (layout : Layout) (list s : List ℕ) → Bytes list → packetOf layout list ≡ shown s
     → Shows layout (jobsOf list) s
-written-shows layout list s h e = by-first (jobsOf list) refl
-  where
-    by-first : (js : List Job) → jobsOf list ≡ js → Shows layout (jobsOf list) s
-    by-first [] k = absurd (some-record list k)
-    by-first (j ∷ js) k =
-        let b : Each Body (j ∷ js) = rw k at (bodies list h) in
-        rw k (packet-shows layout j js s (written layout list j js s k e) (b .0) (b .1))
+written-shows layout list s b e =
+    let w = written layout list s e in
+    subst (Shows layout (jobsOf list)) (w .2) (layout-shows layout list b (w .0) (w .1))
