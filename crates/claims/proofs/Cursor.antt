@@ -5,12 +5,10 @@ use mathlib.Core.List.{List, _++_}
 use native.Mathlib.Omega.{arith}
 use lib.ListN.{length, take, drop}
 use lib.Seq.{take-append-seam}
-use lib.Dec.{leb}
-use Rattle.laws.proofs.Tests.{by-test}
 use Rattle.def_refusals.specs.declared.Answer.the-variants.{Done}
 use Rattle.def_refusals.specs.declared.Checked.{Checked}
 use Rattle.def_refusals.specs.declared.Checked.the-variants.{Fine, Unfit}
-use Rattle.def_refusals.specs.Answers.{Or, shown, refused, onFine, answerOf, filledOf, Listed}
+use Rattle.def_refusals.specs.Answers.{Or, shown, refused, onFine, answerOf, Listed}
 use Rattle.def_wire.specs.declared.Reading.the-variants.{Standard}
 use Rattle.def_wire.specs.declared.Rle.{Rle}
 use Rattle.def_wire.specs.declared.Ranged.the-variants.{Chunks}
@@ -32,29 +30,16 @@ use Rattle.cursor.proofs.LegalLaws.{legal-start}
 use Rattle.cursor.proofs.StepsLaws.{taken-none, listed-zero, taken-add, listed-add}
 use Rattle.cursor.proofs.CursorLaws.{taken-least, all-numbers, rest-start}
 use Rattle.cursor.proofs.AdvanceLaws.{range-fits}
+use Rattle.claims.proofs.Taken.{shown-taken}
 use Rattle.claims.specs.Cursor.{Calls, ended, called, CallsIn, ended-in, called-in, CursorLists, CursorListsIn}
 
 -- ---- a listing call that was not refused
 
-done-eq : {m n : ℕ} → Done m ≡ Done n → m ≡ n
-done-eq e = cc
-
--- it has what is shown, in front of the list
-module _ (out out′ : List ℕ) (n : ℕ) where
-  shown-taken : (l : List ℕ) → Listed (shown l) out (Done n) out′ → l ≡ take n out′
-  unfolding answerOf filledOf
-  shown-taken l p =
-      by-test (leb (length l) (length out))
-      (λ t e.
-      let k : n ≡ length l = sym (done-eq e) in
-      let f : out′ ≡ l ++ drop (length l) out = rw t at (p .filled) in
-      rw (k, f) (sym (take-append-seam l (drop (length l) out))))
-      (λ _ e. absurd (let z : _≡_ {A = ℕ} 0 1 = cc in omega arith)) (sym (p .answer))
-
-  fine-taken : (f : Checked) (l : List ℕ) → Listed (onFine f (shown l)) out (Done n) out′ → l ≡ take n out′
-  unfolding answerOf
-  fine-taken Fine l p = shown-taken l p
-  fine-taken (Unfit x) l p = absurd (let e = p .answer in let z : _≡_ {A = ℕ} 0 1 = cc in omega arith)
+fine-taken : (out out′ : List ℕ) (n : ℕ) (f : Checked) (l : List ℕ) → Listed (onFine f (shown l)) out (Done n) out′
+    → l ≡ take n out′
+unfolding answerOf
+fine-taken out out′ n Fine l p = shown-taken out out′ n l p
+fine-taken out out′ n (Unfit x) l p = absurd (let e = p .answer in let z : _≡_ {A = ℕ} 0 1 = cc in omega arith)
 
 -- ---- calls on a view
 

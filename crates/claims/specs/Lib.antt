@@ -1,8 +1,10 @@
 -- What the project claims beyond single functions, each a few plain lines about the public calls. Read in this order:
 --     Cursor     the number cursor by calls of any budgets lists what the list functions list
 --     Walk       the reader from `new` by `moved` comes to each block
+--     RoundTrip  the reading functions answer of a written packet what its records ask
 -- and the crate of examples: the twelve examples and the worked facts of every clause of the definitions. proofs/
 -- proves each claim under its name
 -- in small letters.
 pub mod Cursor
 pub mod Walk
+pub mod RoundTrip

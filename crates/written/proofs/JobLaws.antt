@@ -1,0 +1,75 @@
+-- The block of a good record is laid as the record asks, for each kind. Assumes nothing.
+use Prim.Native.Nat.{ℕ, _+_, _%_, _<_, _^_}
+use mathlib.Core.Path.{_≡_}
+use mathlib.Core.Bool.{true}
+use mathlib.Core.List.{List}
+use native.Mathlib.Omega.{arith}
+use lib.ListN.{length, drop}
+use lib.Dec.{leb}
+use borrow.Author.Tests.{leb-true, eqb-true}
+use Rattle.laws.proofs.Tests.{and-true, true≢false}
+use Rattle.def_wire.specs.declared.Ranged.the-variants.{Chunks, Times}
+use Rattle.def_wire.specs.declared.Kind.the-variants.{Spans, Clock, Echoes}
+use Rattle.def_wire.specs.declared.KindOr.{KindOr}
+use Rattle.def_wire.specs.declared.KindOr.the-variants.{AKind, NoKind}
+use Rattle.def_wire.specs.Bytes.{four}
+use Rattle.def_wire.specs.Block.{kindOf}
+use Rattle.def_standard.specs.Range.{rangeOf}
+use Rattle.def_jobs.specs.declared.Layout.{Layout}
+use Rattle.def_jobs.specs.Jobs.{Job, le16, le32, le64, low32, jobFields, jobWords, jobTimes, hasFields, isBody}
+use Rattle.def_jobs.specs.Jobs.{isBlockJob, askedAs, askedOf}
+use Rattle.def_jobs.specs.Layout.{bytesOf, wordsBytes, bytesAs, blockBytes}
+use Rattle.utils.proofs.BytesLaws.{Bytes}
+use Rattle.written.proofs.Lists.{under-drop}
+use Rattle.written.proofs.RecordsLaws.{Body}
+use Rattle.written.proofs.WordsLaws.{under-low16, under-low32, length-low32, words32-bytes, length-four}
+use Rattle.written.proofs.WordsLaws.{numbers-behind, words-even}
+use Rattle.written.proofs.BlockLaws.{Fits, Laid, rle-laid, times-laid, clock-laid, echoes-laid}
+
+-- ---- little-endian numbers of bytes
+
+module _ (s : List ℕ) (h : Bytes s) where
+  pub le16-lt : (at : ℕ) → le16 s at < 65536
+  le16-lt at = omega (arith, h at, h (at + 1))
+
+  pub le32-lt : (at : ℕ) → le32 s at < 4294967296
+  le32-lt at = omega (arith, le16-lt at, le16-lt (at + 2))
+
+  pub le64-lt : (at : ℕ) → le64 s at < 2 ^ 64
+  le64-lt at = omega (arith, le32-lt at, le32-lt (at + 4))
+
+job-fits : (j : Job) (n : ℕ) → hasFields j n ≡ true → Body j → Fits (jobFields j)
+job-fits j n g h =
+    let p = and-true (leb 10 (length (j .body))) _ g in
+    let q = and-true (leb (jobFields j .thinning) 15) _ (p .1) in
+    record {
+      ssrc = le32-lt (j .body) h 0;
+      begin = le16-lt (j .body) h 4;
+      end = le16-lt (j .body) h 6;
+      thinning = leb-true _ _ (q .0);
+    }
+
+laid-as : (k : KindOr) (layout : Layout) (j : Job) → isBody k j ≡ true → Body j
+    → Laid (bytesAs k layout j) (askedAs k j)
+laid-as (AKind (Spans (Chunks a))) layout j g h =
+    let u = under-low16 (drop 10 (j .body)) (under-drop 256 10 (j .body) h) in
+    rw (numbers-behind layout (rangeOf (jobFields j)) (jobWords j) u) at
+    (rle-laid (jobFields j) (wordsBytes layout (jobWords j)) (job-fits j 2 g h) (words-even layout (jobWords j)) a)
+laid-as (AKind (Spans Times)) layout j g h =
+    let u = under-low32 (drop 10 (j .body)) (under-drop 256 10 (j .body) h) in
+    let m : length (bytesOf four (jobTimes j)) % 4 ≡ 0 = omega (arith, length-four (jobTimes j)) in
+    rw (words32-bytes (jobTimes j) u) at
+    (times-laid (jobFields j) (bytesOf four (jobTimes j)) (job-fits j 4 g h) m)
+laid-as (AKind Clock) layout j g h = clock-laid (le64 (j .body) 0) (le64-lt (j .body) h 0)
+laid-as (AKind Echoes) layout j g h =
+    let l = length-four (low32 (j .body)) in
+    let n = length-low32 (j .body) in
+    let m : length (j .body) % 12 ≡ 0 = eqb-true _ _ g in
+    let e : length (j .body) ≡ length (bytesOf four (low32 (j .body))) = omega arith in
+    rw (words32-bytes (low32 (j .body)) (under-low32 (j .body) h)) at
+    (echoes-laid (length (j .body)) (bytesOf four (low32 (j .body))) e (omega arith))
+laid-as NoKind layout j g h = true≢false g
+
+pub block-laid : (layout : Layout) (j : Job) → isBlockJob j ≡ true → Body j → Laid (blockBytes layout j) (askedOf j)
+unfolding isBlockJob blockBytes askedOf
+block-laid layout j g h = laid-as (kindOf (j .kind)) layout j g h

@@ -1,0 +1,124 @@
+-- The words, times and entries of a record's body, written as bytes and read back. Assumes nothing.
+--     under-low16, under-low32, length-low32       a body's numbers, their bounds and their count
+--     words16-bytes, words32-bytes                 their bytes read back
+--     length-two, length-four                      how many bytes they are
+--     block-words, numbers-behind, words-even      a block's words: the record's and zero words, which show nothing
+use Prim.Native.Nat.{ℕ, zero, suc, _+_, _*_, _/_, _%_, _<_}
+use mathlib.Core.Path.{_≡_, refl, ap, _∙_}
+use mathlib.Core.List.{List, [], _∷_, _++_}
+use native.Mathlib.Nat.{add-comm}
+use native.Mathlib.Omega.{arith}
+use lib.ListN.{length, replicate, length-append, length-replicate}
+use lib.Arith.{digits-lt}
+use lib.Dec.{lit<, eqb}
+use borrow.Author.Tests.{eqb-true, eqb-false}
+use Rattle.laws.proofs.Tests.{both}
+use Rattle.def_wire.specs.Bytes.{pairUp, two, four, words16, words32}
+use Rattle.def_standard.specs.declared.Range.{Range}
+use Rattle.def_standard.specs.Chunks.{valuesIn}
+use Rattle.def_standard.specs.Standard.{valuesOf, numbersFrom, numbersOf}
+use Rattle.def_jobs.specs.declared.Layout.{Layout}
+use Rattle.def_jobs.specs.declared.Layout.the-variants.{Plain, Careful}
+use Rattle.def_jobs.specs.Jobs.{pairLow, low16, low32}
+use Rattle.def_jobs.specs.Layout.{bytesOf, isOdd, lastWord, zerosBehind, wordsBytes}
+use Rattle.utils.proofs.BytesLaws.{Bytes, words16-two, words32-four}
+use Rattle.written.proofs.Lists.{Under}
+
+-- ---- a body's numbers
+
+under-pairLow : (b : ℕ) (s : List ℕ) → 0 < b * b → Under b s → Under (b * b) (pairLow b s)
+unfolding pairLow
+under-pairLow b [] p h i = p
+under-pairLow b (x ∷ []) p h i = p
+under-pairLow b (x ∷ y ∷ s) p h zero = rw (add-comm x (y * b)) (digits-lt (h 1) (h 0))
+under-pairLow b (x ∷ y ∷ s) p h (suc i) = under-pairLow b s p (λ k. h (suc (suc k))) i
+
+pub under-low16 : (s : List ℕ) → Bytes s → Under 65536 (low16 s)
+under-low16 s h = under-pairLow 256 s (lit< tt) h
+
+pub under-low32 : (s : List ℕ) → Bytes s → Under 4294967296 (low32 s)
+under-low32 s h = under-pairLow 65536 (low16 s) (lit< tt) (under-low16 s h)
+
+length-pairLow : (b : ℕ) (s : List ℕ) → length (pairLow b s) ≡ length s / 2
+unfolding pairLow
+length-pairLow b [] = refl
+length-pairLow b (x ∷ []) = refl
+length-pairLow b (x ∷ y ∷ s) = let e = length-pairLow b s in omega arith
+
+pub length-low32 : (s : List ℕ) → length (low32 s) ≡ length s / 4
+length-low32 s = omega (arith, length-pairLow 65536 (low16 s), length-pairLow 256 s)
+
+-- ---- read back
+
+pub words16-bytes : (ws rest : List ℕ) → Under 65536 ws → words16 (bytesOf two ws ++ rest) ≡ ws ++ words16 rest
+words16-bytes [] rest h = refl
+words16-bytes (w ∷ ws) rest h =
+    words16-two w (bytesOf two ws ++ rest) (h 0)
+    ∙ ap (λ (l : List ℕ). w ∷ l) (words16-bytes ws rest (λ i. h (suc i)))
+
+pub words32-bytes : (ts : List ℕ) → Under 4294967296 ts → words32 (bytesOf four ts) ≡ ts
+unfolding pairUp
+words32-bytes [] h = refl
+words32-bytes (t ∷ ts) h =
+    words32-four t (bytesOf four ts) (h 0)
+    ∙ ap (λ (l : List ℕ). t ∷ l) (words32-bytes ts (λ i. h (suc i)))
+
+pub length-two : (ws : List ℕ) → length (bytesOf two ws) ≡ 2 * length ws
+length-two [] = refl
+length-two (w ∷ ws) = let e = length-two ws in omega arith
+
+pub length-four : (ts : List ℕ) → length (bytesOf four ts) ≡ 4 * length ts
+length-four [] = refl
+length-four (t ∷ ts) = let e = length-four ts in omega arith
+
+-- ---- zero words behind
+
+words16-zeros : (z : ℕ) → words16 (replicate (2 * z) 0) ≡ replicate z 0
+unfolding pairUp
+words16-zeros zero = refl
+words16-zeros (suc z) =
+    let e : 2 * suc z ≡ suc (suc (2 * z)) = omega arith in rw e (ap (λ (l : List ℕ). 0 ∷ l) (words16-zeros z))
+
+-- a block's words: the record's, and the zero words behind them
+pub block-words : (layout : Layout) (ws : List ℕ) → Under 65536 ws
+    → words16 (wordsBytes layout ws) ≡ ws ++ replicate (zerosBehind layout ws) 0
+block-words layout ws h =
+    words16-bytes ws (replicate (2 * zerosBehind layout ws) 0) h
+    ∙ ap (λ (l : List ℕ). ws ++ l) (words16-zeros (zerosBehind layout ws))
+
+values-zeros : (z : ℕ) → valuesOf (replicate z 0) ≡ []
+unfolding valuesOf valuesIn
+values-zeros zero = refl
+values-zeros (suc z) = values-zeros z
+
+values-behind : (ws : List ℕ) (z : ℕ) → valuesOf (ws ++ replicate z 0) ≡ valuesOf ws
+unfolding valuesOf
+values-behind [] z = values-zeros z
+values-behind (w ∷ ws) z = ap (λ (l : List ℕ). valuesIn w ++ l) (values-behind ws z)
+
+-- they show what the record's words show
+pub numbers-behind : (layout : Layout) (g : Range) (ws : List ℕ) → Under 65536 ws
+    → numbersOf g (words16 (wordsBytes layout ws)) ≡ numbersOf g ws
+unfolding numbersFrom
+numbers-behind layout g ws h = rw (block-words layout ws h, values-behind ws (zerosBehind layout ws))
+
+-- and are whole 32-bit words
+zeros-even : (layout : Layout) (ws : List ℕ) → (length ws + zerosBehind layout ws) % 2 ≡ 0
+unfolding zerosBehind
+zeros-even Plain ws =
+    both (λ (z : ℕ). (length ws + z) % 2 ≡ 0) (isOdd ws) (λ t. omega (arith, eqb-true (length ws % 2) 1 t))
+    (λ f. omega (arith, eqb-false (length ws % 2) 1 f))
+zeros-even Careful ws =
+    both (λ (z : ℕ). (length ws + z) % 2 ≡ 0) (isOdd ws) (λ t. omega (arith, eqb-true (length ws % 2) 1 t))
+    (λ f. both (λ (z : ℕ). (length ws + z) % 2 ≡ 0) (eqb (lastWord ws) 0)
+    (λ _. omega (arith, eqb-false (length ws % 2) 1 f)) (λ _. omega (arith, eqb-false (length ws % 2) 1 f)))
+
+pub words-even : (layout : Layout) (ws : List ℕ) → length (wordsBytes layout ws) % 4 ≡ 0
+words-even layout ws =
+    omega (
+      arith,
+      length-append (bytesOf two ws) (replicate (2 * zerosBehind layout ws) 0),
+      length-two ws,
+      length-replicate {A = ℕ} (2 * zerosBehind layout ws) 0,
+      zeros-even layout ws,
+    )

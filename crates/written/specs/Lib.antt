@@ -1,0 +1,2 @@
+-- Shows: what a written packet shows of the records that asked for it.
+pub mod Shows
