@@ -12,6 +12,7 @@ import sys
 import tempfile
 
 from dump import dump, flattened
+from jobs import MOST_BYTES, write
 from lists import cursor, entries, make_word, numbers, pairs, words
 from readings import fields, is_refused, time, view, whole
 
@@ -19,8 +20,8 @@ ROOT = os.path.dirname(os.path.dirname(os.path.abspath(__file__)))
 LENT = 16384        # the most room that a list is lent
 LONGEST = 300000    # the longest payload, in bytes
 
-DUMP, LIST, FIELDS, CURSOR, WORD, PARSE, WORDS, VIEW, NUMBERS = 1, 2, 3, 4, 7, 8, 9, 11, 14
-FORMS = {DUMP: "<", LIST: "<BIBI", FIELDS: "<BIB", CURSOR: "<IBIIIII", WORD: "<BII", PARSE: "<B",
+DUMP, LIST, FIELDS, CURSOR, PLAIN, WORD, PARSE, WORDS, VIEW, NUMBERS = 1, 2, 3, 4, 5, 7, 8, 9, 11, 14
+FORMS = {DUMP: "<", LIST: "<BIBI", FIELDS: "<BIB", CURSOR: "<IBIIIII", PLAIN: "<I", WORD: "<BII", PARSE: "<B",
          WORDS: "<BIBI", VIEW: "<BI", NUMBERS: "<BIBI"}
 # For each kind with an asked type: the types that it serves. LIST takes no other; of the others a byte that
 # they do not serve is refused as 10 (FIELDS asks the time for 4).
@@ -34,7 +35,7 @@ def asked(kind):
 
 
 def request(kind, *given, packet=b""):
-    """The kind's numbers, in order, and then the packet."""
+    """The kind's numbers, in order, and then the packet (for PLAIN, the job list)."""
     return kind, struct.pack(FORMS[kind], *given) + packet
 
 
@@ -130,6 +131,10 @@ def cursor_answer(given, packet):
                 lambda f: "taken {} word {} place {} position {}\n".format(*f) + listed("numbers", f[4]))
 
 
+def plain_answer(given, jobs):
+    return told(write(jobs, False, min(*given, MOST_BYTES)), lambda found: f"packet {found.hex()}")
+
+
 def word_answer(given, behind):
     kind, value, room = given
     if kind > 3 or behind:
@@ -147,7 +152,7 @@ def view_answer(given, packet):
 
 
 ANSWERS = {DUMP: lambda _, packet: dump(packet), LIST: list_answer, FIELDS: fields_answer,
-           CURSOR: cursor_answer, WORD: word_answer, PARSE: parse_answer, WORDS: words_answer,
+           CURSOR: cursor_answer, PLAIN: plain_answer, WORD: word_answer, PARSE: parse_answer, WORDS: words_answer,
            VIEW: view_answer, NUMBERS: numbers_answer}
 
 
