@@ -3,15 +3,17 @@
 --     jobs-cut, jobs-next     the records of a list, where the first one is cut and where it is whole
 --     behind-none, ..         the records behind another one
 --     fault-*                 12, where the first record is bad and where it is good
+--     fine-*                  what it says that 12 does not apply
 use Prim.Native.Nat.{ℕ, zero, suc, _+_, _-_, _≤_, _<_}
 use mathlib.Core.Path.{_≡_, refl, sym, ap, _∙_}
-use mathlib.Core.Bool.{Bool, true, false, cond, _&&_}
+use mathlib.Core.Bool.{true, false, _&&_}
 use mathlib.Core.List.{List, [], _∷_}
 use native.Mathlib.Omega.{arith}
 use lib.ListN.{length, drop, length-drop}
 use lib.Dec.{leb, lit<}
 use borrow.Author.Tests.{le-leb, lt-leb, leb-true, leb-false, ne-eqb}
 use Rattle.laws.proofs.Tests.{either, and-true}
+use Rattle.def_refusals.specs.declared.Refusal.{Refusal}
 use Rattle.def_refusals.specs.declared.Refusal.the-variants.{BadRecord}
 use Rattle.def_refusals.specs.declared.Checked.the-variants.{Fine, Unfit}
 use Rattle.def_wire.specs.declared.KindOr.the-variants.{NoKind}
@@ -127,3 +129,17 @@ fault-first i s e =
     either (isWhole s)
     (λ w. rw (jobs-next s w) (fault-bad i (jobAt s) _ (rw w at e)))
     (λ w. rw (jobs-cut s w) (fault-bad i cutJob [] (cut-bad i)))
+
+-- where 12 does not apply, the first record is whole and good, and so are those behind it
+not-fine : {P : Type 0} {x : Refusal} → Unfit x ≡ Fine → P
+not-fine {x = x} e = let z : _≡_ {A = ℕ} 0 1 = cc in absurd (omega arith)
+
+pub fine-first : (i : ℕ) (s : List ℕ) → jobsFault i (jobsOf s) ≡ Fine → (isWhole s && isGood i (jobAt s)) ≡ true
+fine-first i s e =
+    either (isWhole s && isGood i (jobAt s)) (λ t. t) (λ t. not-fine (sym (fault-first i s t) ∙ e))
+
+pub fine-next : (i : ℕ) (s : List ℕ) → jobsFault i (jobsOf s) ≡ Fine
+    → jobsFault (suc i) (jobsBehind (drop (6 + le32 s 0) s)) ≡ Fine
+fine-next i s e =
+    let p = and-true (isWhole s) (isGood i (jobAt s)) (fine-first i s e) in
+    sym (fault-good i (jobAt s) (jobsBehind (drop (6 + le32 s 0) s)) (p .1)) ∙ (rw (jobs-next s (p .0)) at e)

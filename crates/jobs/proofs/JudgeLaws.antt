@@ -1,4 +1,5 @@
 -- When a record is good, with the tests that lead there as premises. Assumes nothing.
+--     kind-is, kind-spans    a record's kind, as it was told apart
 --     header-*, fields-*     the tests of `isHeaderJob` and `hasFields` in turn
 --     block-*                `isBlockJob` by the record's kind
 use Prim.Native.Nat.{ℕ, _-_, _%_, _≤_, _<_}
@@ -8,11 +9,22 @@ use lib.ListN.{length}
 use lib.Dec.{leb, eqb}
 use borrow.Author.Tests.{le-leb, lt-leb, eq-eqb, ne-eqb}
 use Rattle.def_wire.specs.declared.Rle.{Rle}
+use Rattle.def_wire.specs.declared.Ranged.{Ranged}
+use Rattle.def_wire.specs.declared.Kind.{Kind}
+use Rattle.def_wire.specs.declared.KindOr.{KindOr}
 use Rattle.def_wire.specs.declared.Ranged.the-variants.{Chunks, Times}
 use Rattle.def_wire.specs.declared.Kind.the-variants.{Spans, Clock, Echoes}
 use Rattle.def_wire.specs.declared.KindOr.the-variants.{AKind, NoKind}
 use Rattle.def_wire.specs.Block.{kindOf}
 use Rattle.def_jobs.specs.Jobs.{Job, le16, isHeaderJob, askedPadding, hasFields, isBlockJob}
+
+-- the kind of a record, as it was told apart
+pub kind-is : {o z : KindOr} {k x : Kind} → o ≡ z → o ≡ AKind k → k ≡ x → z ≡ AKind x
+kind-is e p q = cc
+
+pub kind-spans : {o z : KindOr} {k : Kind} {g x : Ranged} → o ≡ z → o ≡ AKind k → k ≡ Spans g → g ≡ x
+    → z ≡ AKind (Spans x)
+kind-spans e p q r = cc
 
 module _ (j : Job) where
   pub header-kind : (j .kind ≡ 0 → ⊥) → false ≡ isHeaderJob j

@@ -1,20 +1,18 @@
--- How long blocks and packets are: the one place that unfolds `zerosBehind`, `blockBytes`, `blocksBytes` and `layoutOf`.
--- Assumes nothing.
+-- How long blocks and packets are: the one place that unfolds `blockBytes`, `blocksBytes` and `layoutOf`.
 --     length-bytesOf          numbers of so many bytes each
---     zeros-*                 the zero words behind a record's words
 --     length-block-*          a block's length by its kind
 --     block-fits              a good record's block is no longer than the record
 --     length-layout           a packet's length
-use Prim.Native.Nat.{ℕ, zero, suc, _+_, _*_, _-_, _/_, _%_, _≤_, _<_}
-use mathlib.Core.Path.{_≡_, refl, sym, ap, ap₂, _∙_}
-use mathlib.Core.Bool.{Bool, true, false, cond, _&&_}
-use mathlib.Core.List.{List, [], _∷_, _++_}
+use Prim.Native.Nat.{ℕ, zero, suc, _+_, _*_, _-_, _/_, _≤_}
+use mathlib.Core.Path.{_≡_, refl, sym, _∙_}
+use mathlib.Core.Bool.{true}
+use mathlib.Core.List.{List, [], _∷_}
 use native.Mathlib.Nat.{suc-mul}
 use native.Mathlib.Omega.{arith}
-use lib.ListN.{length, getD, replicate, drop, length-append, length-drop, length-replicate, List·getD-eq-default}
-use lib.Dec.{leb, eqb}
-use borrow.Author.Tests.{leb-true, eqb-true, eq-eqb, ne-eqb}
-use Rattle.laws.proofs.Tests.{and-true, true≢false, both}
+use lib.ListN.{length, replicate, length-append, length-replicate}
+use lib.Dec.{leb}
+use borrow.Author.Tests.{leb-true, eqb-true}
+use Rattle.laws.proofs.Tests.{and-true, true≢false}
 use Rattle.def_wire.specs.Bytes.{two, four}
 use Rattle.def_wire.specs.declared.Rle.{Rle}
 use Rattle.def_wire.specs.declared.Ranged.the-variants.{Chunks, Times}
@@ -23,14 +21,12 @@ use Rattle.def_wire.specs.declared.KindOr.{KindOr}
 use Rattle.def_wire.specs.declared.KindOr.the-variants.{AKind, NoKind}
 use Rattle.def_wire.specs.Block.{kindOf}
 use Rattle.def_jobs.specs.declared.Layout.{Layout}
-use Rattle.def_jobs.specs.declared.Layout.the-variants.{Plain, Careful}
-use Rattle.def_jobs.specs.Jobs.{Job, le16, low16, low32, jobFields, jobWords, jobTimes, hasFields, isBody, isBlockJob}
+use Rattle.def_jobs.specs.Jobs.{Job, low32, jobWords, jobTimes, isBody, isBlockJob}
 use Rattle.def_jobs.specs.Jobs.{askedPadding}
-use Rattle.def_jobs.specs.Layout.{bytesOf, isOdd, lastWord, zerosBehind, bytesAs, blockBytes, blocksBytes, paddingBytes}
+use Rattle.def_jobs.specs.Layout.{bytesOf, zerosBehind, bytesAs, blockBytes, blocksBytes, paddingBytes}
 use Rattle.def_jobs.specs.Layout.{layoutOf}
-use Rattle.jobs.proofs.LowLaws.{length-low16, length-low32, getD-low16, le16-drop}
-
--- ---- words
+use Rattle.jobs.proofs.LowLaws.{length-low32}
+use Rattle.jobs.proofs.ZerosLaws.{length-words, length-times, zeros-most}
 
 pub length-bytesOf : (put : ℕ → List ℕ) (k : ℕ) → ((x : ℕ) → length (put x) ≡ k) → (xs : List ℕ)
     → length (bytesOf put xs) ≡ length xs * k
@@ -38,59 +34,6 @@ length-bytesOf put k h [] = sym (omega arith)
 length-bytesOf put k h (x ∷ xs) =
     length-append (put x) (bytesOf put xs)
     ∙ (let a = h x in let e = length-bytesOf put k h xs in omega (arith, a, e, suc-mul (length xs) k))
-
--- how many words and times a body has
-pub length-words : (j : Job) → length (jobWords j) ≡ (length (j .body) - 10) / 2
-length-words j = omega (arith, length-low16 (drop 10 (j .body)), length-drop 10 (j .body))
-
-pub length-times : (j : Job) → length (jobTimes j) ≡ (length (j .body) - 10) / 4
-length-times j = omega (arith, length-low32 (drop 10 (j .body)), length-drop 10 (j .body))
-
--- as they are counted from the bytes behind the fields
-pub count-words : (j : Job) (left : ℕ) → left ≡ length (j .body) - 10 → left / 2 ≡ length (jobWords j)
-count-words j left e = rw e (sym (length-words j))
-
--- the last word is the number of its two bytes; without words it counts as 0
-pub last-word : (j : Job) (n : ℕ) → n ≡ length (jobWords j) → (n ≡ 0 → ⊥)
-    → lastWord (jobWords j) ≡ le16 (j .body) (n * 2 + 8)
-last-word j n e h =
-    let i : length (jobWords j) - 1 < length (drop 10 (j .body)) / 2 = omega (arith, length-low16 (drop 10 (j .body))) in
-    let k : 10 + 2 * (length (jobWords j) - 1) ≡ n * 2 + 8 = omega arith in
-    getD-low16 (drop 10 (j .body)) (length (jobWords j) - 1) i
-    ∙ le16-drop 10 (j .body) (2 * (length (jobWords j) - 1)) ∙ ap (le16 (j .body)) k
-
-pub last-none : (ws : List ℕ) (n : ℕ) → n ≡ length ws → n ≡ 0 → lastWord ws ≡ 0
-last-none ws n e h = List·getD-eq-default ws 0 (omega arith)
-
-module _ (ws : List ℕ) (n : ℕ) (e : n ≡ length ws) where
-  pub zeros-odd : (layout : Layout) → n % 2 ≡ 1 → 1 ≡ zerosBehind layout ws
-  unfolding zerosBehind
-  zeros-odd Plain h = rw (eq-eqb (length ws % 2) 1 (rw e at h))
-  zeros-odd Careful h = rw (eq-eqb (length ws % 2) 1 (rw e at h))
-
-  module _ (layout : Layout) (even : n % 2 ≡ 1 → ⊥) where
-    not-odd : isOdd ws ≡ false
-    not-odd = ne-eqb (length ws % 2) 1 (rw e at even)
-
-    pub zeros-plain : layout ≡ Plain → 0 ≡ zerosBehind layout ws
-    unfolding zerosBehind
-    zeros-plain l = rw (l, not-odd)
-
-    pub zeros-zero : layout ≡ Careful → lastWord ws ≡ 0 → 0 ≡ zerosBehind layout ws
-    unfolding zerosBehind
-    zeros-zero l z = rw (l, not-odd, eq-eqb _ _ z)
-
-    pub zeros-two : layout ≡ Careful → (lastWord ws ≡ 0 → ⊥) → 2 ≡ zerosBehind layout ws
-    unfolding zerosBehind
-    zeros-two l z = rw (l, not-odd, ne-eqb _ _ z)
-
-module _ (ws : List ℕ) where
-  pub zeros-most : (layout : Layout) → zerosBehind layout ws ≤ 2
-  unfolding zerosBehind
-  zeros-most Plain = both (λ (n : ℕ). n ≤ 2) (isOdd ws) (λ _. omega arith) (λ _. omega arith)
-  zeros-most Careful =
-      both (λ (n : ℕ). n ≤ 2) (isOdd ws) (λ _. omega arith)
-      (λ _. both (λ (n : ℕ). n ≤ 2) (eqb (lastWord ws) 0) (λ _. omega arith) (λ _. omega arith))
 
 -- ---- blocks
 
@@ -127,7 +70,8 @@ module _ (layout : Layout) (j : Job) where
   unfolding blockBytes
   length-block-clock e = rw e
 
-  pub length-block-echoes : kindOf (j .kind) ≡ AKind Echoes → length (blockBytes layout j) ≡ 4 + length (j .body) / 4 * 4
+  pub length-block-echoes : kindOf (j .kind) ≡ AKind Echoes
+      → length (blockBytes layout j) ≡ 4 + length (j .body) / 4 * 4
   unfolding blockBytes
   length-block-echoes e = rw e as-echoes
 

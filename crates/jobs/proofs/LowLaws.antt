@@ -3,7 +3,7 @@
 --     le16-drop, ..           the number in what is left from a place on
 --     length-low16, ..        how many words a list of bytes has
 --     last-word               the last word is the number of the last two bytes
-use Prim.Native.Nat.{ℕ, zero, suc, _+_, _*_, _-_, _/_, _≤_, _<_, min}
+use Prim.Native.Nat.{ℕ, zero, suc, _+_, _*_, _/_, _≤_, _<_, min}
 use mathlib.Core.Path.{_≡_, refl, sym, ap, ap₂, _∙_}
 use mathlib.Core.List.{List, [], _∷_}
 use native.Mathlib.Nat.{add-assoc, add-zero}

@@ -1,6 +1,6 @@
 -- How many bytes the packet of a job list has (RULES, "Job lists and writing").
 --     jobOf         a record of a kind and a body
---     nextPlace     where the next record begins
+--     nextJob     where the next record begins
 --     isBlockAt     the list goes on with a whole record that asks for a block
 --     jobsBehind    the records behind another one, of which there may be none
 --     sizeAnswer    how many bytes the packet of a list of records has, or 12, then 14
@@ -24,8 +24,8 @@ abbrev pub jobOf : ℕ → List ℕ → Job
 jobOf kind body = record { kind = kind; body = body }
 
 -- six bytes and the body further on; the list's end where less is left
-abbrev pub nextPlace : List ℕ → ℕ → ℕ
-nextPlace list at = min (at + (6 + le32 (drop at list) 0)) (length list)
+abbrev pub nextJob : List ℕ → ℕ → ℕ
+nextJob list at = min (at + (6 + le32 (drop at list) 0)) (length list)
 
 abbrev pub isHeaderAt : List ℕ → Bool
 isHeaderAt s = isWhole s && isHeaderJob (jobAt s)

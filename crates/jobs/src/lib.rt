@@ -3,14 +3,14 @@
 // function takes all inputs: a byte past the end is 0.
 ghost use mathlib.Core.Path.{_≡_};
 ghost use Prim.Native.Nat.{_+_, _≤_};
-ghost use lib.ListN.{length, take, drop};
+ghost use lib.ListN.{length, drop};
 ghost use Rattle.def_wire.specs.Packet.{startFrom};
 ghost use Rattle.def_wire.specs.Block.{kindOf};
-ghost use Rattle.def_jobs.specs.Jobs.{le16, le32, le64, isWhole, jobAt, jobsOf, jobWords, isHeaderJob, isBlockJob};
-ghost use Rattle.def_jobs.specs.Jobs.{hasFields};
+ghost use Rattle.def_jobs.specs.Jobs.{le16, le32, le64, low16, isWhole, jobAt, jobsOf, isHeaderJob, hasFields};
+ghost use Rattle.def_jobs.specs.Jobs.{isBlockJob};
 ghost use Rattle.def_jobs.specs.Layout.{zerosBehind, blockBytes};
 ghost use Rattle.def_jobs.specs.Writing.{sizeFault};
-ghost use Rattle.jobs.specs.Sizes.{jobOf, nextPlace, isHeaderAt, isBlockAt, jobsBehind};
+ghost use Rattle.jobs.specs.Sizes.{jobOf, nextJob, isHeaderAt, isBlockAt, jobsBehind};
 ghost use Rattle.jobs.specs.Sizes.{onSized, sizeAnswer, restAnswer};
 use def_jobs::Layout;
 use def_refusals::Answer;
@@ -47,13 +47,11 @@ pub fn u16_from_le_bytes(s: &[u8], at: usize) -> u16
 {
     if at < s.len() {
         if 2 <= s.len() - at {
-            load16(s, at)
-        } else {
-            utils::pair(0, s[at])
+            return load16(s, at);
         }
-    } else {
-        0
+        return utils::pair(0, s[at]);
     }
+    0
 }
 
 // Four bytes.
@@ -62,13 +60,11 @@ pub fn u32_from_le_bytes(s: &[u8], at: usize) -> u32
 {
     if at < s.len() {
         if 4 <= s.len() - at {
-            load32(s, at)
-        } else {
-            utils::join16(u16_from_le_bytes(s, at + 2), u16_from_le_bytes(s, at))
+            return load32(s, at);
         }
-    } else {
-        0
+        return utils::join16(u16_from_le_bytes(s, at + 2), u16_from_le_bytes(s, at));
     }
+    0
 }
 
 // Eight bytes.
@@ -77,13 +73,11 @@ pub fn u64_from_le_bytes(s: &[u8], at: usize) -> u64
 {
     if at < s.len() {
         if 8 <= s.len() - at {
-            load64(s, at)
-        } else {
-            utils::join32(u32_from_le_bytes(s, at + 4), u32_from_le_bytes(s, at))
+            return load64(s, at);
         }
-    } else {
-        0
+        return utils::join32(u32_from_le_bytes(s, at + 4), u32_from_le_bytes(s, at));
     }
+    0
 }
 
 fn wide16(x: u16) -> usize
@@ -111,7 +105,7 @@ pub fn is_whole(list: &[u8], at: usize) -> bool
 
 // The kind of the record at a place.
 pub fn kind_at(list: &[u8], at: usize) -> u16
-    ensures { λ r. ⌜ r ≡ le16 (drop at (now (list .entry))) 4 ⌝ }
+    ensures { λ r. ⌜ r ≡ jobAt (drop at (now (list .entry))) .kind ⌝ }
 {
     u16_from_le_bytes(list, utils::lesser(at, list.len()) + 4)
 }
@@ -127,7 +121,7 @@ pub fn body_at(list: &[u8], at: usize) -> &[u8]
 
 // Where the next record begins; the list's end where less than a whole record stands at the place.
 pub fn next_at(list: &[u8], at: usize) -> usize
-    ensures { λ r. ⌜ r ≡ nextPlace (now (list .entry)) at ⌝ }
+    ensures { λ r. ⌜ r ≡ nextJob (now (list .entry)) at ⌝ }
 {
     let from = utils::lesser(at, list.len());
     let n = 6 + wide32(u32_from_le_bytes(list, at));
@@ -162,10 +156,10 @@ fn kind_of(kind: u16) -> KindOr
     }
 }
 
-// Fields, a thinning of at most 15, and behind them whole items of 2 bytes, or of 4.
-fn has_fields(kind: u16, body: &[u8], bytes: usize) -> bool
+// Fields, a thinning of at most 15, and behind them whole items of so many bytes; the kind makes no difference.
+fn has_fields(body: &[u8], bytes: usize) -> bool
     requires { ⌜ 1 ≤ bytes ⌝ }
-    ensures { λ r. ⌜ r ≡ hasFields (jobOf kind (now (body .entry))) bytes ⌝ }
+    ensures { λ r. ⌜ r ≡ hasFields (jobOf 1 (now (body .entry))) bytes ⌝ }
 {
     if body.len() < 10 {
         return false;
@@ -183,8 +177,8 @@ pub fn is_block(kind: u16, body: &[u8]) -> bool
     match kind_of(kind) {
         KindOr::AKind(k) => match k {
             Kind::Spans(g) => match g {
-                Ranged::Chunks(_) => has_fields(kind, body, 2),
-                Ranged::Times => has_fields(kind, body, 4),
+                Ranged::Chunks(_) => has_fields(body, 2),
+                Ranged::Times => has_fields(body, 4),
             },
             Kind::Clock => body.len() == 8,
             Kind::Echoes => body.len() % 12 == 0,
@@ -195,7 +189,7 @@ pub fn is_block(kind: u16, body: &[u8]) -> bool
 
 // How many zero words the layout puts behind the words of a body of kind 1 or 2.
 pub fn zeros_behind(layout: Layout, body: &[u8]) -> usize
-    ensures { λ r. ⌜ r ≡ zerosBehind layout (jobWords (jobOf 1 (now (body .entry)))) ⌝ }
+    ensures { λ r. ⌜ r ≡ zerosBehind layout (low16 (drop 10 (now (body .entry)))) ⌝ }
 {
     let words = utils::above(body.len(), 10) / 2;
     if words % 2 == 1 {

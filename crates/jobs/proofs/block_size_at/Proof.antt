@@ -18,4 +18,5 @@ returns c = let b = c .before in
     (b .body-at .ensures .0))
 
 pub block-size-at-spec : {M : Type 1} → statement M
-block-size-at-spec = tie.close (tie.spec (λ c κs. search needs) (λ c κs. search needs) (λ c κs. search needs) returns)
+block-size-at-spec =
+    tie.close (tie.spec (λ c κs. search needs) (λ c κs. search needs) (λ c κs. search needs) returns)

@@ -13,4 +13,5 @@ returns-3 : tie.Need-returns-3
 returns-3 c = rw (le-ltb _ _ (c .before .if1 .left), le-ltb _ _ (c .if2 .left))
 
 pub fitting-spec : {M : Type 1} → statement M
-fitting-spec = tie.close (tie.spec returns returns-2 returns-3)
+fitting-spec =
+    tie.close (tie.spec returns returns-2 returns-3)

@@ -22,4 +22,7 @@ returns-2 c = let w = c .before in
     block-cut (drop (a .at) (a .list .now)) (sym (w .is-whole .ensures) ∙ c .if1 .left)
 
 pub is-block-at-spec : {M : Type 1} → statement M
-is-block-at-spec = tie.close (tie.spec (λ c κs. search needs) (λ c κs. search needs) (λ c κs. search needs) (λ c κs. search needs) returns returns-2)
+is-block-at-spec =
+    tie.close
+    (tie.spec (λ c κs. search needs) (λ c κs. search needs) (λ c κs. search needs) (λ c κs. search needs) returns
+    returns-2)

@@ -28,4 +28,5 @@ returns-4 c = let p = c .before in
     (c .if3 .left)
 
 pub is-header-spec : {M : Type 1} → statement M
-is-header-spec = tie.close (tie.spec returns returns-2 (λ c κs. search needs) returns-3 returns-4)
+is-header-spec =
+    tie.close (tie.spec returns returns-2 (λ c κs. search needs) returns-3 returns-4)

@@ -20,4 +20,7 @@ returns-2 c = let w = c .before in
     header-cut (w .before .before .args .list .now) (sym (w .is-whole .ensures) ∙ c .if1 .left)
 
 pub is-header-first-spec : {M : Type 1} → statement M
-is-header-first-spec = tie.close (tie.spec (λ c κs. search needs) (λ c κs. search needs) (λ c κs. search needs) (λ c κs. search needs) returns returns-2)
+is-header-first-spec =
+    tie.close
+    (tie.spec (λ c κs. search needs) (λ c κs. search needs) (λ c κs. search needs) (λ c κs. search needs) returns
+    returns-2)

@@ -19,4 +19,5 @@ returns-2 c = let u = c .before in
     (c .wide32 .ensures .0 ∙ u .u32-from-le-bytes .ensures)
 
 pub is-whole-spec : {M : Type 1} → statement M
-is-whole-spec = tie.close (tie.spec (λ c κs. search needs) returns (λ c κs. search needs) (λ c κs. search needs) returns-2)
+is-whole-spec =
+    tie.close (tie.spec (λ c κs. search needs) returns (λ c κs. search needs) (λ c κs. search needs) returns-2)

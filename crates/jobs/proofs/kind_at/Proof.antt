@@ -11,4 +11,5 @@ returns c = let l = c .before in
     c .u16-from-le-bytes .ensures ∙ le16-cut (a .at) (a .list .now) (l .lesser .result) 4 (l .lesser .ensures)
 
 pub kind-at-spec : {M : Type 1} → statement M
-kind-at-spec = tie.close (tie.spec (λ c κs. search needs) (λ c. search needs) (λ c κs. search needs) returns)
+kind-at-spec =
+    tie.close (tie.spec (λ c κs. search needs) (λ c. search needs) (λ c κs. search needs) returns)

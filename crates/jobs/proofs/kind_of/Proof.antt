@@ -10,4 +10,5 @@ returns-2 : tie.Need-returns-2
 returns-2 c = sym (kindOf-none (c .before .args .kind) (omega arith))
 
 pub kind-of-spec : {M : Type 1} → statement M
-kind-of-spec = tie.close (tie.spec (λ c. search needs) (λ c κs. search needs) (λ c. search needs) returns-2)
+kind-of-spec =
+    tie.close (tie.spec (λ c. search needs) (λ c κs. search needs) (λ c. search needs) returns-2)

@@ -13,4 +13,7 @@ returns c = let w = c .before in
     (w .wide32 .ensures .0 ∙ w .before .u32-from-le-bytes .ensures) (c .lesser2 .ensures)
 
 pub next-at-spec : {M : Type 1} → statement M
-next-at-spec = tie.close (tie.spec (λ c κs. search needs) (λ c κs. search needs) (λ c κs. search needs) (λ c. search needs) (λ c. search needs) (λ c κs. search needs) (λ c. search needs) returns)
+next-at-spec =
+    tie.close
+    (tie.spec (λ c κs. search needs) (λ c κs. search needs) (λ c κs. search needs) (λ c. search needs)
+    (λ c. search needs) (λ c κs. search needs) (λ c. search needs) returns)

@@ -74,4 +74,7 @@ returns-2 c = let l = c .before .before in
     (l .loop .blocks) (l .loop .bytes) (l .loop .inv) (c .before .loop-test .left)
 
 pub size-behind-spec : {M : Type 1} → statement M
-size-behind-spec = tie.close (tie.spec Inv-loop μ-loop loop-holds (λ c κs. search needs) add-t11 returns (λ c κs. search needs) add-bytes add-blocks (λ c κs. search needs) loop-less loop-again (λ c κs. search needs) returns-2)
+size-behind-spec =
+    tie.close
+    (tie.spec Inv-loop μ-loop loop-holds (λ c κs. search needs) add-t11 returns (λ c κs. search needs) add-bytes
+    add-blocks (λ c κs. search needs) loop-less loop-again (λ c κs. search needs) returns-2)

@@ -2,8 +2,8 @@
 use mathlib.Core.Path.{sym, _∙_}
 use Rattle.def_jobs.specs.Jobs.{jobWords}
 use Rattle.jobs.specs.Sizes.{jobOf}
-use Rattle.jobs.proofs.LayoutLaws.{count-words, last-word, last-none, zeros-odd, zeros-plain, zeros-zero}
-use Rattle.jobs.proofs.LayoutLaws.{zeros-two}
+use Rattle.jobs.proofs.ZerosLaws.{count-words, last-word, last-none, zeros-odd, zeros-plain, zeros-zero}
+use Rattle.jobs.proofs.ZerosLaws.{zeros-two}
 use borrow.Author.Needs.{needs}
 use Rattle.jobs.proofs.zeros_behind.Statement.{statement}
 use Rattle.jobs.proofs.zeros_behind.Tie as tie
@@ -55,4 +55,7 @@ returns-5 c = let u = c .before in
     (λ z. c .if3 .left (u .u16-from-le-bytes .ensures ∙ sym (last-word j _ k (u .before .if2 .left)) ∙ z))
 
 pub zeros-behind-spec : {M : Type 1} → statement M
-zeros-behind-spec = tie.close (tie.spec (λ c κs. search needs) returns (λ c. search needs) (λ c. search needs) returns-2 (λ c. search needs) (λ c. search needs) (λ c κs. search needs) returns-3 returns-4 returns-5)
+zeros-behind-spec =
+    tie.close
+    (tie.spec (λ c κs. search needs) returns (λ c. search needs) (λ c. search needs) returns-2 (λ c. search needs)
+    (λ c. search needs) (λ c κs. search needs) returns-3 returns-4 returns-5)
