@@ -27,11 +27,11 @@ returns c = let n = c .before in
     let b = u .before in
     let h = b .before .before in
     let a = h .before .before .args in
-    c .size-behind .ensures
-    ∙ header-good (a .layout) (a .list .now) (sym (h .is-header-first .ensures) ∙ b .before .if1 .taken)
+    rw (c .size-behind .ensures)
+    (header-good (a .layout) (a .list .now) (sym (h .is-header-first .ensures) ∙ b .before .if1 .taken)
     (w .wide16 .result) (n .next-at .result)
     (w .wide16 .ensures ∙ u .u16-from-le-bytes .ensures ∙ ap (λ (s : List ℕ). le16 s 4) (b .body-at .ensures .0))
-    (n .next-at .ensures)
+    (n .next-at .ensures))
 
 returns-2 : tie.Need-returns-2
 returns-2 c = let h = c .before in
