@@ -21,10 +21,8 @@ use Rattle.def_wire.specs.declared.KindOr.{KindOr}
 use Rattle.def_wire.specs.declared.KindOr.the-variants.{AKind, NoKind}
 use Rattle.def_wire.specs.Block.{kindOf}
 use Rattle.def_jobs.specs.declared.Layout.{Layout}
-use Rattle.def_jobs.specs.Jobs.{Job, low32, jobWords, jobTimes, isBody, isBlockJob}
-use Rattle.def_jobs.specs.Jobs.{askedPadding}
-use Rattle.def_jobs.specs.Layout.{bytesOf, zerosBehind, bytesAs, blockBytes, blocksBytes, paddingBytes}
-use Rattle.def_jobs.specs.Layout.{layoutOf}
+use Rattle.def_jobs.specs.Jobs.{Job, low32, jobWords, jobTimes, isBody, isBlockJob, askedPadding}
+use Rattle.def_jobs.specs.Layout.{bytesOf, zerosBehind, bytesAs, blockBytes, blocksBytes, paddingBytes, layoutOf}
 use Rattle.jobs.proofs.LowLaws.{length-low32}
 use Rattle.jobs.proofs.ZerosLaws.{length-words, length-times, zeros-most}
 

@@ -6,20 +6,17 @@
 use Prim.Native.Nat.{ℕ, _+_, _-_, _≤_, _<_, min}
 use mathlib.Core.Path.{_≡_, sym, ap, ap₂, _∙_}
 use mathlib.Core.Bool.{true, false}
-use mathlib.Core.List.{List}
+use mathlib.Core.List.{List, _∷_}
 use native.Mathlib.Omega.{arith}
-use lib.ListN.{length, take, drop, length-drop}
+use lib.ListN.{length, take, drop, length-drop, length-take}
 use lib.Seq.{drop-drop}
 use lib.Dec.{leb}
 use borrow.Author.Tests.{le-leb, lt-leb}
 use Rattle.utils.proofs.PartLaws.{drop-cut}
 use Rattle.def_wire.specs.Packet.{startFrom}
 use Rattle.def_jobs.specs.Jobs.{le16, le32, isWhole, jobAt, isHeaderJob, isBlockJob}
-use Rattle.jobs.specs.Sizes.{jobOf, nextJob, isHeaderAt, isBlockAt}
+use Rattle.jobs.specs.Sizes.{jobOf, nextJob, isHeaderAt, isBlockAt, jobsBehind}
 use Rattle.jobs.proofs.LowLaws.{le32-here}
-use mathlib.Core.List.{_∷_}
-use lib.ListN.{length-take}
-use Rattle.jobs.specs.Sizes.{jobsBehind}
 use Rattle.jobs.proofs.JobsLaws.{whole-is, behind-some, jobs-next}
 
 module _ (list : List ℕ) (at left : ℕ) (e : left ≡ length list - at) where

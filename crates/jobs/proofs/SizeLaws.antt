@@ -13,20 +13,18 @@ use borrow.Author.Tests.{leb-true}
 use Rattle.laws.proofs.Tests.{and-true}
 use Rattle.def_refusals.specs.declared.Refusal.{Refusal}
 use Rattle.def_refusals.specs.declared.Refusal.the-variants.{BadRecord}
+use Rattle.def_refusals.specs.declared.Checked.{Checked}
 use Rattle.def_refusals.specs.declared.Checked.the-variants.{Fine, Unfit}
-use Rattle.def_refusals.specs.declared.Answer.the-variants.{Refused}
+use Rattle.def_refusals.specs.declared.Answer.the-variants.{Done, Refused}
+use Rattle.def_refusals.specs.Answers.{thenCheck}
 use Rattle.def_jobs.specs.declared.Layout.{Layout}
 use Rattle.def_jobs.specs.Jobs.{Job, le32, isWhole, jobAt, jobsOf, isHeaderJob, jobsFault, askedPadding}
 use Rattle.def_jobs.specs.Layout.{blocksBytes, layoutOf}
 use Rattle.def_jobs.specs.Writing.{sizeFault}
 use Rattle.jobs.specs.Sizes.{nextJob, isHeaderAt, jobsBehind, onSized, sizeAnswer, restAnswer}
-use Rattle.jobs.proofs.JobsLaws.{jobs-next, fault-good}
-use Rattle.jobs.proofs.JobsLaws.{fault-first}
+use Rattle.jobs.proofs.JobsLaws.{jobs-next, fault-good, fault-first}
 use Rattle.jobs.proofs.LayoutLaws.{length-layout}
 use Rattle.jobs.proofs.PlaceLaws.{next-whole}
-use Rattle.def_refusals.specs.declared.Answer.the-variants.{Done}
-use Rattle.def_refusals.specs.declared.Checked.{Checked}
-use Rattle.def_refusals.specs.Answers.{thenCheck}
 
 -- the answer, where 12 applies and where it does not
 module _ (layout : Layout) (start : ℕ) (js : List Job) where

@@ -15,8 +15,7 @@ use Rattle.def_jobs.specs.Jobs.{Job, isWhole, jobAt, isBlockJob, jobsFault}
 use Rattle.def_jobs.specs.Layout.{blockBytes, blocksBytes}
 use Rattle.def_jobs.specs.Writing.{sizeFault}
 use Rattle.jobs.specs.Sizes.{nextJob, isBlockAt, jobsBehind, onSized, restAnswer}
-use Rattle.jobs.proofs.JobsLaws.{behind-none, behind-some, fault-good, fault-none}
-use Rattle.jobs.proofs.JobsLaws.{fault-first}
+use Rattle.jobs.proofs.JobsLaws.{behind-none, behind-some, fault-good, fault-none, fault-first}
 use Rattle.jobs.proofs.LayoutLaws.{block-fits, length-blocks, length-blocks-none}
 use Rattle.jobs.proofs.PlaceLaws.{next-whole, behind-next, length-body}
 use Rattle.jobs.proofs.SizeLaws.{rest-bad, rest-fine}

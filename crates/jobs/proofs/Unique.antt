@@ -11,6 +11,7 @@ use Rattle.jobs.proofs.kind_at.Reads as kind-at
 use Rattle.jobs.proofs.body_at.Reads as body-at
 use Rattle.jobs.proofs.next_at.Reads as next-at
 use Rattle.jobs.proofs.is_header.Reads as is-header
+use Rattle.jobs.proofs.kind_of.Reads as kind-of
 use Rattle.jobs.proofs.is_block.Reads as is-block
 use Rattle.jobs.proofs.zeros_behind.Reads as zeros-behind
 use Rattle.jobs.proofs.block_size.Reads as block-size
@@ -42,6 +43,9 @@ next-at-unique κs a r₁ r₂ s₁ s₂ p q = p ∙ sym q
 
 pub is-header-unique : (κs : Lfts 1) → Fixes (is-header.Post κs) (λ r s. r)
 is-header-unique κs a r₁ r₂ s₁ s₂ p q = p ∙ sym q
+
+pub kind-of-unique : (κs : Lfts 0) → Fixes (kind-of.Post κs) (λ r s. r)
+kind-of-unique κs a r₁ r₂ s₁ s₂ p q = p ∙ sym q
 
 pub is-block-unique : (κs : Lfts 1) → Fixes (is-block.Post κs) (λ r s. r)
 is-block-unique κs a r₁ r₂ s₁ s₂ p q = p ∙ sym q

@@ -1,8 +1,10 @@
 -- How many bytes the packet of a job list has (RULES, "Job lists and writing").
 --     jobOf         a record of a kind and a body
---     nextJob     where the next record begins
---     isBlockAt     the list goes on with a whole record that asks for a block
---     jobsBehind    the records behind another one, of which there may be none
+--     nextJob       where the next record begins
+--     isHeaderAt    a whole and good header record stands first
+--     isBlockAt     a whole and good record that asks for a block stands first
+--     jobsBehind    the records behind another one: none where the list ends there
+--     onSized       the size, where a check is fine
 --     sizeAnswer    how many bytes the packet of a list of records has, or 12, then 14
 --     restAnswer    the same behind a good header record, which alone makes a packet of so many bytes
 use Prim.Native.Nat.{ℕ, _+_, _-_, min}
@@ -36,7 +38,6 @@ isBlockAt s = isWhole s && isBlockJob (jobAt s)
 unfoldable pub jobsBehind : List ℕ → List Job
 jobsBehind s = cond (leb (length s) 0) [] (jobsOf s)
 
--- the size, where it is fine
 abbrev pub onSized : Checked → ℕ → Answer
 onSized Fine n = Done n
 onSized (Unfit x) n = Refused x

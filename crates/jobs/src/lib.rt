@@ -145,8 +145,8 @@ pub fn is_header(kind: u16, body: &[u8]) -> bool
     padding <= 252
 }
 
-// The kind of block that a record's kind asks for.
-fn kind_of(kind: u16) -> KindOr
+// The kind of block that a record's kind asks for, where it asks for one.
+pub fn kind_of(kind: u16) -> KindOr
     ensures { λ r. ⌜ r ≡ kindOf kind ⌝ }
 {
     if kind < 256 {

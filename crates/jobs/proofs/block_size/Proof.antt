@@ -4,9 +4,9 @@ use native.Mathlib.Omega.{arith}
 use Rattle.def_jobs.specs.Jobs.{jobWords}
 use Rattle.jobs.specs.Sizes.{jobOf}
 use Rattle.jobs.proofs.LayoutLaws.{length-block-words, length-block-times, length-block-clock}
+use Rattle.jobs.proofs.LayoutLaws.{length-block-echoes, length-block-none}
 use Rattle.jobs.proofs.JudgeLaws.{kind-is, kind-spans}
 use Rattle.jobs.proofs.ZerosLaws.{zeros-most}
-use Rattle.jobs.proofs.LayoutLaws.{length-block-echoes, length-block-none}
 use borrow.Author.Needs.{needs}
 use Rattle.jobs.proofs.block_size.Statement.{statement}
 use Rattle.jobs.proofs.block_size.Tie as tie
