@@ -1,0 +1,2 @@
+// The bytes of one block, and of a packet's frame, into a lent buffer.
+mod swap;
