@@ -1,6 +1,6 @@
 -- A list that is stored piece by piece: how it begins, one turn, how it ends. Assumes nothing.
 use Prim.Native.Nat.{ℕ, _+_, _-_, _≤_}
-use mathlib.Core.Path.{_≡_, refl, sym, ap, _∙_}
+use mathlib.Core.Path.{_≡_, refl, sym, ap, subst, _∙_}
 use mathlib.Core.List.{List, [], _++_}
 use native.Mathlib.Nat.{add-zero}
 use native.Mathlib.Omega.{arith}
@@ -9,6 +9,14 @@ use lib.Seq.{sets, length-sets}
 use Rattle.laws.specs.Stores.{Wrote}
 use Rattle.laws.proofs.Stores.{sets-append}
 use Rattle.builder.specs.Swapped.{Storing}
+
+-- a store whose equation is known, with the index past it
+pub piece : (l m vs : List ℕ) (n : ℕ) → m ≡ sets l n vs → Wrote l n vs m (n + length vs)
+piece l m vs n e = record { stored = e; past = refl }
+
+-- the same list, told otherwise
+pub told : {l m a b : List ℕ} {i j : ℕ} → a ≡ b → Wrote l i a m j → Wrote l i b m j
+told {l} {m} {a} {b} {i} {j} e w = subst (λ (vs : List ℕ). Wrote l i vs m j) e w
 
 pub begun : (l : List ℕ) (i : ℕ) (whole : List ℕ) → Storing l i whole l i whole
 begun l i whole = record { stored = refl; past = refl; same = refl }
