@@ -18,6 +18,9 @@ piece l m vs n e = record { stored = e; past = refl }
 pub told : {l m a b : List ℕ} {i j : ℕ} → a ≡ b → Wrote l i a m j → Wrote l i b m j
 told {l} {m} {a} {b} {i} {j} e w = subst (λ (vs : List ℕ). Wrote l i vs m j) e w
 
+pub room-told : {a b : List ℕ} (at : ℕ) {n : ℕ} → a ≡ b → at + length a ≤ n → at + length b ≤ n
+room-told {a} {b} at {n} e h = subst (λ (vs : List ℕ). at + length vs ≤ n) e h
+
 pub begun : (l : List ℕ) (i : ℕ) (whole : List ℕ) → Storing l i whole l i whole
 begun l i whole = record { stored = refl; past = refl; same = refl }
 

@@ -1,13 +1,14 @@
 -- The laws of `zerosBehind`, by a count of words and the last word's two bytes. Assumes nothing.
-use Prim.Native.Nat.{ℕ, _+_, _*_, _-_, _/_, _%_, _<_}
+use Prim.Native.Nat.{ℕ, _+_, _*_, _-_, _/_, _%_, _≤_, _<_}
 use mathlib.Core.Path.{_≡_, refl, sym, ap, ap₂, _∙_}
 use mathlib.Core.Bool.{cond}
 use mathlib.Core.List.{List}
 use native.Mathlib.Omega.{arith}
-use lib.Dec.{eqb}
+use lib.Dec.{eqb, lit≤}
 use lib.ListN.{length, getD, drop, length-drop, List·getD-eq-default}
 use lib.Seq.{getD-drop}
 use borrow.Author.Tests.{eq-eqb, ne-eqb}
+use Rattle.laws.proofs.Tests.{both}
 use Rattle.def_jobs.specs.declared.Layout.{Layout}
 use Rattle.def_jobs.specs.declared.Layout.the-variants.{Plain, Careful}
 use Rattle.def_jobs.specs.Jobs.{le16, low16}
@@ -66,3 +67,10 @@ module _ (ws : List ℕ) where
       → cond (eqb (lastWord ws) 0) 0 2 ≡ zerosBehind Careful ws
   unfolding zerosBehind
   zerosBehind-careful e = simp (ne-eqb (length ws % 2) 1 e)
+
+  pub zerosBehind-le : (layout : Layout) → zerosBehind layout ws ≤ 2
+  unfolding zerosBehind
+  zerosBehind-le Plain = both (λ (n : ℕ). n ≤ 2) (eqb (length ws % 2) 1) (λ t. lit≤ tt) (λ f. lit≤ tt)
+  zerosBehind-le Careful =
+      both (λ (n : ℕ). n ≤ 2) (eqb (length ws % 2) 1) (λ t. lit≤ tt)
+      (λ f. both (λ (n : ℕ). n ≤ 2) (eqb (lastWord ws) 0) (λ t. lit≤ tt) (λ g. lit≤ tt))

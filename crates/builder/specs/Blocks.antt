@@ -1,14 +1,17 @@
 -- The parts of a block of each kind, as the builders write them, over a record's body alone.
 --     fieldsIn, fieldsBytes     SSRC, begin, end and thinning of kinds 1 to 3, and a block's bytes down to them
 --     Fit                       a body has its fields and whole items of so many bytes
---     wordsBlock, timesBlock, clockBlock, echoesBlock     def_jobs' `bytesAs` for a body of each kind
+--     wordsBlock, timesBlock, spansBlock, clockBlock, echoesBlock     def_jobs' `bytesAs` for a body of each kind
+--     itemSize                  the bytes of a word or a time
 use Prim.Native.Nat.{ℕ, _+_, _-_, _%_, _≤_}
 use mathlib.Core.Path.{_≡_}
 use mathlib.Core.List.{List, _++_}
 use lib.ListN.{length, drop}
 use Rattle.def_wire.specs.declared.Fields.{Fields}
 use Rattle.def_wire.specs.Bytes.{two, four, eight}
-use Rattle.def_wire.specs.Block.{receiptType, clockType, echoType}
+use Rattle.def_wire.specs.declared.Ranged.{Ranged}
+use Rattle.def_wire.specs.declared.Ranged.the-variants.{Chunks, Times}
+use Rattle.def_wire.specs.Block.{rleType, receiptType, clockType, echoType}
 use Rattle.def_jobs.specs.declared.Layout.{Layout}
 use Rattle.def_jobs.specs.Jobs.{Job, jobFields, low16, low32, le64}
 use Rattle.def_jobs.specs.Layout.{bytesOf, head, withFields, wordsBytes}
@@ -32,6 +35,15 @@ wordsBlock type layout body = withFields type (fieldsIn body) (wordsBytes layout
 
 abbrev pub timesBlock : List ℕ → List ℕ
 timesBlock body = withFields receiptType (fieldsIn body) (bytesOf four (low32 (drop 10 body)))
+
+-- kinds 1 to 3, and the size of an item
+abbrev pub spansBlock : Layout → Ranged → List ℕ → List ℕ
+spansBlock layout (Chunks a) body = wordsBlock (rleType a) layout body
+spansBlock layout Times body = timesBlock body
+
+abbrev pub itemSize : Ranged → ℕ
+itemSize (Chunks a) = 2
+itemSize Times = 4
 
 abbrev pub clockBlock : List ℕ → List ℕ
 clockBlock body = head clockType 0 8 ++ eight (le64 body 0)
