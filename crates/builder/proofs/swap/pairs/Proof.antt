@@ -1,0 +1,60 @@
+-- `builder::swap::pairs` meets its contract: pairs of 32-bit numbers.
+use Prim.Native.Nat.{ℕ, _+_, _-_}
+use mathlib.Core.Path.{_≡_, refl}
+use mathlib.Core.List.{_++_}
+use native.Mathlib.Omega.{arith}
+use lib.ListN.{length, drop}
+use borrow.Author.Needs.{needs}
+use Rattle.utils.proofs.BytesLaws.{Bytes}
+use Rattle.builder.specs.Swapped.{swapped32, numbers2}
+use Rattle.builder.proofs.SwapLaws.{swapped32-two}
+use Rattle.builder.proofs.StoringLaws.{Going, going-room, going-turned}
+use Rattle.builder.proofs.swap.pairs.Statement.{statement}
+use Rattle.builder.proofs.swap.pairs.Tie as tie
+
+abbrev Inv-loop : tie.InvT-loop
+Inv-loop body from out₀ at k₀ n₀ out k n = Going swapped32 body from out₀ at out k n
+
+abbrev μ-loop : tie.MeasureT-loop
+μ-loop body from out₀ at k₀ n₀ out k n = length body - k
+
+-- the next piece of what is left
+next : (c : tie.In-loop Inv-loop μ-loop)
+    → let l = c .before in
+    let body = l .before .before .before .args .body .now in
+    swapped32 (drop (l .loop .k) body) ≡ numbers2 body (l .loop .k) ++ swapped32 (drop (l .loop .k + 8) body)
+next c =
+    let l = c .before in
+    let s = l .before .before in
+    let bytes : Bytes (s .before .args .body .now) = λ i. s .shared-slice-known .given i .fits in
+    swapped32-two (s .before .args .body .now) bytes (l .loop .k) (omega (arith, c .loop-test .taken, l .loop .inv .high))
+
+put-numbers2-requires : tie.Need-put-numbers2-requires Inv-loop μ-loop
+put-numbers2-requires c κs =
+    let l = c .before .before in
+    let b = l .before .before .before in (
+      omega (arith, c .before .loop-test .taken, l .loop .inv .high),
+      going-room swapped32 (b .args .body .now) (b .args .from) (b .args .out .now) (b .args .at) (l .loop .out) (l .loop .k)
+          (l .loop .n) (l .loop .inv) (numbers2 (b .args .body .now) (l .loop .k)) 8 (next (c .before)) (b .pre .1),
+    )
+
+loop-again : tie.Need-loop-again Inv-loop μ-loop
+loop-again c =
+    let p = c .before .before in
+    let t = p .before .before in
+    let l = t .before in
+    let b = l .before .before .before in
+    going-turned swapped32 (b .args .body .now) (b .args .from) (b .args .out .now) (b .args .at) (l .loop .out)
+    (l .loop .k) (l .loop .n) (l .loop .inv) (numbers2 (b .args .body .now) (l .loop .k)) 8 (next t)
+    (p .put-numbers2 .last .1 .1 .0) (omega (arith, t .loop-test .taken, l .loop .inv .high)) refl (p .put-numbers2 .ensures)
+
+returns : tie.Need-returns Inv-loop μ-loop
+returns c =
+    let i = c .before .loop .inv in
+    (i .low, i .high, rw (← (i .here)) (i .state))
+
+pub pairs-spec : {M : Type 1} → statement M
+pairs-spec =
+    tie.close
+    (tie.spec Inv-loop μ-loop (λ c. search needs) (λ c. search needs) put-numbers2-requires (λ c. search needs)
+    (λ c. search needs) (λ c. search needs) loop-again (λ c. search needs) returns)

@@ -1,0 +1,4 @@
+-- What the builders' contracts say beside def_jobs' layout.
+-- Read in this order: Swapped (little-endian numbers as big-endian bytes), Blocks (the parts of a block of each kind).
+pub mod Swapped
+pub mod Blocks

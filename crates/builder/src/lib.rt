@@ -1,0 +1,180 @@
+// The bytes of one block, and of a packet's frame, into a lent buffer (RFC 3611, 2 and 4; RULES, "Job lists and
+// writing"). Port of: the `write_into_unchecked` of xr/mod.rs, rle.rs, packet_receipt_time.rs,
+// receiver_reference_time.rs and dlrr.rs; differs: a block's numbers come from a record's little-endian body.
+mod swap;
+mod zeros;
+
+ghost use mathlib.Core.Path.{_≡_};
+ghost use mathlib.Core.Bool.{true};
+ghost use mathlib.Core.List.{_∷_, _++_};
+ghost use Prim.Native.Nat.{_+_, _-_, _/_, _%_, _≤_};
+ghost use lib.ListN.{length, replicate};
+ghost use Rattle.def_wire.specs.Bytes.{two, four};
+ghost use Rattle.laws.specs.Stores.{Wrote};
+ghost use Rattle.def_jobs.specs.Jobs.{isBlockJob};
+ghost use Rattle.def_jobs.specs.Layout.{head, firstByte, paddingBytes, blockBytes};
+ghost use Rattle.builder.specs.Blocks.{jobOf, fieldsIn, fieldsBytes, Fit, itemSize, wordsBlock, timesBlock};
+ghost use Rattle.builder.specs.Blocks.{spansBlock, clockBlock, echoesBlock};
+use def_jobs::Layout;
+use def_wire::Kind;
+use def_wire::KindOr;
+use def_wire::Ranged;
+use records::DelaySinceLastReceiverReport;
+use records::PacketReceiptTimes;
+use records::ReceiverReferenceTime;
+use xr::Xr;
+
+// Bit P of the first byte, beside version 2 (RFC 3550, 6.4.1).
+fn first_byte(padding: usize) -> u8
+    ensures { λ r. ⌜ r ≡ firstByte padding ⌝ }
+{
+    if padding == 0 { 128 } else { 160 }
+}
+
+// A packet's first eight bytes: `size` bytes in all, of which `padding` stand behind the blocks.
+// Port of: mod.rs XrBuilder::write_into_unchecked; differs: padding sets P.
+pub fn write_header(out: &mut [u8], padding: usize, size: usize, sender: u32) -> usize
+    ensures { λ r. ⌜ Wrote (now (out .entry)) 0
+        (firstByte padding ∷ 207 ∷ two ((size - 4) / 4) ++ four sender) (now (out .exit)) r ⌝ }
+{
+    utils::put16(out, 0, utils::pair(first_byte(padding), Xr::PACKET_TYPE));
+    utils::put16(out, 2, (utils::above(size, 4) / 4 % 65536) as u16);
+    utils::put32(out, 4, sender);
+    8
+}
+
+// So many zero bytes.
+fn zero_bytes(out: &mut [u8], at: usize, count: usize) -> usize
+    requires { ⌜ at + count ≤ length (now out) ⌝ }
+    ensures { λ r. ⌜ Wrote (now (out .entry)) at (replicate count 0) (now (out .exit)) r ⌝ }
+{
+    let end = at + count;
+    let mut n = at;
+    while n < end {
+        out[n] = 0;
+        n += 1;
+    }
+    n
+}
+
+// The padding of so many bytes: zeros, and their count last (RFC 3550, 6.4.1).
+pub fn write_padding(out: &mut [u8], at: usize, n: usize) -> usize
+    requires { ⌜ (n ≤ 252) × (at + n ≤ length (now out)) ⌝ }
+    ensures { λ r. ⌜ Wrote (now (out .entry)) at (paddingBytes n) (now (out .exit)) r ⌝ }
+{
+    if n == 0 {
+        return at;
+    }
+    let last = zero_bytes(out, at, n - 1);
+    out[last] = n as u8;
+    last + 1
+}
+
+// A block's four header bytes, with so many bytes behind them (RFC 3611, 3).
+fn put_head(out: &mut [u8], at: usize, kind: u8, specific: u8, behind: usize) -> usize
+    requires { ⌜ at + 4 ≤ length (now out) ⌝ }
+    ensures { λ r. ⌜ Wrote (now (out .entry)) at (head kind specific behind) (now (out .exit)) r ⌝ }
+{
+    let words = behind / 4;
+    out[at] = kind;
+    out[at + 1] = specific;
+    out[at + 2] = (words / 256 % 256) as u8;
+    out[at + 3] = (words % 256) as u8;
+    at + 4
+}
+
+// The header and the fields of a block of types 1 to 3; the thinning is the specific byte (RFC 3611, 4.1).
+fn put_fields(out: &mut [u8], at: usize, kind: u8, body: &[u8], behind: usize) -> usize
+    requires { ⌜ (10 ≤ length (now body)) × (fieldsIn (now body) .thinning ≤ 15) × (at + 12 ≤ length (now out)) ⌝ }
+    ensures { λ r. ⌜ Wrote (now (out .entry)) at (fieldsBytes kind (fieldsIn (now (body .entry))) behind)
+        (now (out .exit)) r ⌝ }
+{
+    let ssrc = put_head(out, at, kind, body[8], behind);
+    swap::put_number(body, 0, out, ssrc);
+    let begin = ssrc + 4;
+    swap::put_word(body, 4, out, begin);
+    let end = begin + 2;
+    swap::put_word(body, 6, out, end);
+    end + 2
+}
+
+// A block of type 1 or 2: fields, words, and the zero words behind them. Port of: rle.rs RleBuilder; differs: the
+// careful layout is the same with another count of zero words.
+fn write_words(layout: Layout, kind: u8, body: &[u8], out: &mut [u8], at: usize) -> usize
+    requires { ⌜ Fit (now body) 2 × (at + length (wordsBlock kind layout (now body)) ≤ length (now out)) ⌝ }
+    ensures { λ r. ⌜ Wrote (now (out .entry)) at (wordsBlock kind layout (now (body .entry))) (now (out .exit)) r ⌝ }
+{
+    let zeros = 2 * zeros::zeros_behind(layout, body);
+    let words = put_fields(out, at, kind, body, body.len() - 2 + zeros);
+    let end = swap::swap16(body, 10, out, words);
+    zero_bytes(out, end, zeros)
+}
+
+// A block of type 3: fields and times. Port of: packet_receipt_time.rs PacketReceiptTimesBuilder.
+fn write_times(body: &[u8], out: &mut [u8], at: usize) -> usize
+    requires { ⌜ Fit (now body) 4 × (at + length (timesBlock (now body)) ≤ length (now out)) ⌝ }
+    ensures { λ r. ⌜ Wrote (now (out .entry)) at (timesBlock (now (body .entry))) (now (out .exit)) r ⌝ }
+{
+    let times = put_fields(
+        out,
+        at,
+        PacketReceiptTimes::BLOCK_TYPE,
+        body,
+        body.len() - 2,
+    );
+    swap::swap32(body, 10, out, times)
+}
+
+// A block of type 4: one 64-bit time. Port of: receiver_reference_time.rs ReceiverReferenceTimeBuilder.
+fn write_clock(body: &[u8], out: &mut [u8], at: usize) -> usize
+    requires { ⌜ (length (now body) ≡ 8) × (at + 12 ≤ length (now out)) ⌝ }
+    ensures { λ r. ⌜ Wrote (now (out .entry)) at (clockBlock (now (body .entry))) (now (out .exit)) r ⌝ }
+{
+    let high = put_head(out, at, ReceiverReferenceTime::BLOCK_TYPE, 0, 8);
+    swap::put_number(body, 4, out, high);
+    let low = high + 4;
+    swap::put_number(body, 0, out, low);
+    low + 4
+}
+
+// A block of type 5: entries of three 32-bit numbers. Port of: dlrr.rs DelaySinceLastReceiverReportBuilder.
+fn write_echoes(body: &[u8], out: &mut [u8], at: usize) -> usize
+    requires { ⌜ at + length (echoesBlock (now body)) ≤ length (now out) ⌝ }
+    ensures { λ r. ⌜ Wrote (now (out .entry)) at (echoesBlock (now (body .entry))) (now (out .exit)) r ⌝ }
+{
+    let entries = put_head(
+        out,
+        at,
+        DelaySinceLastReceiverReport::BLOCK_TYPE,
+        0,
+        body.len(),
+    );
+    swap::swap32(body, 0, out, entries)
+}
+
+fn write_spans(layout: Layout, g: Ranged, body: &[u8], out: &mut [u8], at: usize) -> usize
+    requires { ⌜ Fit (now body) (itemSize g) × (at + length (spansBlock layout g (now body)) ≤ length (now out)) ⌝ }
+    ensures { λ r. ⌜ Wrote (now (out .entry)) at (spansBlock layout g (now (body .entry))) (now (out .exit)) r ⌝ }
+{
+    match g {
+        Ranged::Chunks(a) => write_words(layout, records::rle_type(a), body, out, at),
+        Ranged::Times => write_times(body, out, at),
+    }
+}
+
+// The block that a record of a kind asks for. Port of: mod.rs XrBuilder's blocks, each by its own builder.
+pub fn write_block(layout: Layout, kind: u16, body: &[u8], out: &mut [u8], at: usize) -> usize
+    requires { ⌜ (isBlockJob (jobOf kind (now body)) ≡ true)
+        × (at + length (blockBytes layout (jobOf kind (now body))) ≤ length (now out)) ⌝ }
+    ensures { λ r. ⌜ Wrote (now (out .entry)) at (blockBytes layout (jobOf kind (now (body .entry))))
+        (now (out .exit)) r ⌝ }
+{
+    match records::kind_of(kind as u8) {
+        KindOr::AKind(k) => match k {
+            Kind::Spans(g) => write_spans(layout, g, body, out, at),
+            Kind::Clock => write_clock(body, out, at),
+            Kind::Echoes => write_echoes(body, out, at),
+        },
+        KindOr::NoKind => at,
+    }
+}
