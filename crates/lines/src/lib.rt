@@ -149,3 +149,12 @@ pub fn view_line(buf: &mut [u8], at: usize, offset: usize, size: usize, h: [u8; 
     let p = four_hex(buf, o, h);
     print::line_end(buf, p)
 }
+
+// `packet HEX`: the first so many bytes of a list.
+pub fn packet_line(buf: &mut [u8], at: usize, bytes: &[u8], count: usize) -> usize
+    ensures { λ r. ⌜ r ≤ length (now (buf .entry)) ⌝ }
+{
+    let n = print::text(buf, at, b"packet ");
+    let m = print::hex_list(buf, n, bytes, count);
+    print::line_end(buf, m)
+}

@@ -5,16 +5,23 @@ ghost use Prim.Native.Nat.{_≤_};
 ghost use lib.ListN.{length};
 use libc::STDOUT_FILENO;
 
-// Writes what waits, and empties the buffer.
-pub fn flush(buf: &[u8], at: usize) -> usize
+// Writes what waits to a file descriptor, and empties the buffer.
+pub fn send(fd: i32, buf: &[u8], at: usize) -> usize
     ensures { λ r. ⌜ r ≤ 0 ⌝ }
 {
     if at <= buf.len() {
-        io::write_all(STDOUT_FILENO, &buf[..at]);
+        io::write_all(fd, &buf[..at]);
     } else {
-        io::write_all(STDOUT_FILENO, buf);
+        io::write_all(fd, buf);
     }
     0
+}
+
+// The same to standard output.
+pub fn flush(buf: &[u8], at: usize) -> usize
+    ensures { λ r. ⌜ r ≤ 0 ⌝ }
+{
+    send(STDOUT_FILENO, buf, at)
 }
 
 pub fn byte(buf: &mut [u8], at: usize, b: u8) -> usize
@@ -136,6 +143,20 @@ pub fn list_entries(buf: &mut [u8], at: usize, a: &[u32], b: &[u32], c: &[u32], 
         to = number(buf, to, wide32(a[i]));
         to = number(buf, to, wide32(b[i]));
         to = number(buf, to, wide32(c[i]));
+        i += 1;
+    }
+    to
+}
+
+// The first n bytes of a list, in hexadecimal digits.
+pub fn hex_list(buf: &mut [u8], at: usize, list: &[u8], n: usize) -> usize
+    ensures { λ r. ⌜ r ≤ length (now (buf .entry)) ⌝ }
+{
+    let stop = utils::lesser(n, list.len());
+    let mut to = utils::lesser(at, buf.len());
+    let mut i: usize = 0;
+    while i < stop {
+        to = hex(buf, to, list[i]);
         i += 1;
     }
     to

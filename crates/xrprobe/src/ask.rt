@@ -11,6 +11,9 @@ use def_wire::TimeOr;
 use probe::Told;
 use xr::Parsed;
 
+// The most room that is lent to a packet.
+const MOST: usize = 262144;
+
 fn wide(x: u8) -> usize
     ensures { λ r. ⌜ r < 256 ⌝ }
 {
@@ -98,6 +101,35 @@ fn make(p: &[u8], buf: &mut [u8], at: usize) -> Told {
     probe::served(word(chunk_asked(kind, value), buf, at, &mut out[0..room]))
 }
 
+fn tell_packet(buf: &mut [u8], at: usize, out: &[u8], a: Answer) -> usize {
+    match a {
+        Answer::Done(n) => {
+            let m = lines::packet_line(buf, at, out, n);
+            probe::said_whole(buf, m, lent::stands8(out, n))
+        }
+        Answer::Refused(x) => {
+            let m = lines::refusal_line(buf, at, x);
+            probe::said_whole(buf, m, lent::stands8(out, 0))
+        }
+    }
+}
+
+fn packet(list: &[u8], buf: &mut [u8], at: usize, out: &mut [u8]) -> usize {
+    lent::fill8(out);
+    let a = write::write_plain(list, out);
+    tell_packet(buf, at, out, a)
+}
+
+// Kind 5: room, job list.
+fn plain(p: &[u8], buf: &mut [u8], at: usize) -> Told {
+    if p.len() < 4 {
+        return probe::unserved(at);
+    }
+    let mut out = [0u8; MOST];
+    let room = utils::lesser(probe::number(p, 0), MOST);
+    probe::served(packet(&p[4..], buf, at, &mut out[0..room]))
+}
+
 // Kind 8: reading, packet.
 fn parse(p: &[u8], buf: &mut [u8], at: usize) -> Told {
     if p.len() < 1 {
@@ -141,6 +173,7 @@ pub fn answer(kind: u8, p: &[u8], buf: &mut [u8], at: usize, list: &mut [u16]) -
         1 => probe::served(dump::dump(p, buf, at)),
         3 => shown(p, buf, at),
         4 => probe::stretch(p, buf, at, list),
+        5 => plain(p, buf, at),
         7 => make(p, buf, at),
         8 => parse(p, buf, at),
         11 => view(p, buf, at),

@@ -1,0 +1,81 @@
+// The packet of a job list, into a lent buffer (RULES, "Job lists and writing"). One pass judges and sizes, one writes;
+// each byte is written once. Port of: xr/mod.rs XrBuilder with RtcpPacketWriterExt::write_into; differs: a job list in
+// place of builders, padding is sized and written, and 12, 14 and 11 are judged here.
+ghost use mathlib.Core.Path.{_≡_};
+ghost use mathlib.Core.List.{_++_};
+ghost use Prim.Native.Nat.{_+_, _≤_};
+ghost use lib.ListN.{length, drop};
+ghost use Rattle.def_refusals.specs.Answers.{shown, Listed};
+ghost use Rattle.def_refusals.specs.declared.Checked.the-variants.{Fine};
+ghost use Rattle.laws.specs.Stores.{Wrote};
+ghost use Rattle.def_jobs.specs.Jobs.{jobsOf, jobsFault};
+ghost use Rattle.def_jobs.specs.Layout.{blocksBytes, layoutOf};
+ghost use Rattle.def_jobs.specs.Writing.{packetOf};
+ghost use Rattle.jobs.specs.Sizes.{jobsBehind, sizeAnswer};
+use def_jobs::Layout;
+use def_refusals::Answer;
+use def_refusals::Refusal;
+
+// The blocks of the records from a place on.
+fn write_blocks(layout: Layout, list: &[u8], from: usize, out: &mut [u8], start: usize) -> usize
+    requires { ⌜ (from ≤ length (now list)) × (jobsFault 1 (jobsBehind (drop from (now list))) ≡ Fine)
+        × (start + length (blocksBytes layout (jobsBehind (drop from (now list)))) ≤ length (now out)) ⌝ }
+    ensures { λ r. ⌜ Wrote (now (out .entry)) start (blocksBytes layout (jobsBehind (drop from (now (list .entry)))))
+        (now (out .exit)) r ⌝ }
+{
+    let mut at = from;
+    let mut n = start;
+    while at < list.len() {
+        n = builder::write_block(
+            layout,
+            jobs::kind_at(list, at),
+            jobs::body_at(list, at),
+            out,
+            n,
+        );
+        at = jobs::next_at(list, at);
+    }
+    n
+}
+
+fn wide16(x: u16) -> usize
+    ensures { λ r. ⌜ r ≡ x ⌝ }
+{
+    x as usize
+}
+
+// A packet of `size` bytes, which the buffer has room for.
+fn lay_out(layout: Layout, list: &[u8], size: usize, out: &mut [u8])
+    requires { ⌜ (sizeAnswer layout (jobsOf (now list)) ≡ Answer.Done size) × (size ≤ length (now out)) ⌝ }
+    ensures { λ _. ⌜ now (out .exit) ≡ layoutOf layout (jobsOf (now (list .entry))) ++ drop size (now (out .entry)) ⌝ }
+{
+    let header = jobs::body_at(list, 0);
+    let padding = wide16(jobs::u16_from_le_bytes(header, 4));
+    let blocks = builder::write_header(out, padding, size, jobs::u32_from_le_bytes(header, 0));
+    let end = write_blocks(layout, list, jobs::next_at(list, 0), out, blocks);
+    builder::write_padding(out, end, padding);
+}
+
+// The packet, where the buffer has room for it; else 11.
+fn put(layout: Layout, list: &[u8], size: usize, out: &mut [u8]) -> Answer
+    requires { ⌜ sizeAnswer layout (jobsOf (now list)) ≡ Answer.Done size ⌝ }
+    ensures { λ r. ⌜ Listed (shown (layoutOf layout (jobsOf (now (list .entry))))) (now (out .entry)) r
+        (now (out .exit)) ⌝ }
+{
+    if out.len() < size {
+        return Answer::Refused(Refusal::NoRoom(size, out.len()));
+    }
+    lay_out(layout, list, size, out);
+    Answer::Done(size)
+}
+
+// The packet in the plain layout, and its length: 12, 14, 11. Bytes behind the packet stay, and a refused call writes
+// nothing.
+pub fn write_plain(list: &[u8], out: &mut [u8]) -> Answer
+    ensures { λ r. ⌜ Listed (packetOf Layout.Plain (now (list .entry))) (now (out .entry)) r (now (out .exit)) ⌝ }
+{
+    match jobs::packet_size(Layout::Plain, list) {
+        Answer::Done(n) => put(Layout::Plain, list, n, out),
+        Answer::Refused(x) => Answer::Refused(x),
+    }
+}
