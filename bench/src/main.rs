@@ -4,6 +4,7 @@
 //     ours.rs      the proved library's calls          theirs.rs    the Rust's
 //     packets.rs   what is read                        agree.rs     the comparison
 //     timing.rs    turns and the table                 rows.rs      the rows and the growth
+//     writing.rs   what is written, as job lists and as builders
 
 mod agree;
 mod ours;
@@ -11,20 +12,22 @@ mod packets;
 mod rows;
 mod theirs;
 mod timing;
+mod writing;
 
 use timing::Table;
 
 const USAGE: &str = "bench/run [GROUP ..]: times the named groups of rows, or all of them
-groups: packet numbers others longest refusals growth
+groups: packet numbers others longest refusals growth writing
 exit status: 0 every row is at or below its bar; 1 a row is above it; 2 bad usage; 101 an answer differs from the Rust's";
 
-const GROUPS: [(&str, fn(&mut Table)); 6] = [
+const GROUPS: [(&str, fn(&mut Table)); 7] = [
     ("packet", rows::packet),
     ("numbers", rows::numbers),
     ("others", rows::others),
     ("longest", rows::longest),
     ("refusals", rows::refusals),
     ("growth", rows::growth),
+    ("writing", rows::writing),
 ];
 
 fn main() {

@@ -56,6 +56,7 @@ extern "C" {
         ssrcs: *mut u32, a: usize, lasts: *mut u32, b: usize, delays: *mut u32, c: usize,
     ) -> Flat;
     fn xr_chunk(kind: u8, value: u32, out: *mut u8, m: usize) -> Flat;
+    fn xr_write_plain(list: *const u8, n: usize, out: *mut u8, m: usize) -> Flat;
     fn xr_cursor(
         s: *const u8, n: usize, k: usize, t: u8, word: usize, place: usize, position: usize,
         budget: usize, out: *mut u16, m: usize,
@@ -138,4 +139,9 @@ pub fn cursor(
             s.as_ptr(), s.len(), k, t, at.0, at.1, at.2, budget, out.as_mut_ptr(), out.len(),
         )
     }
+}
+
+#[inline]
+pub fn write_plain(list: &[u8], out: &mut [u8]) -> Flat {
+    unsafe { xr_write_plain(list.as_ptr(), list.len(), out.as_mut_ptr(), out.len()) }
 }

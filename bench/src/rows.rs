@@ -6,6 +6,8 @@ use crate::ours::{self, CRATE, STANDARD};
 use crate::packets::{self as make, careful, mixed, runs, some_runs, vectors};
 use crate::theirs;
 use crate::timing::{bb, harder, once, pair, Pair, Table};
+use crate::writing::{self as jobs, list};
+use rtcp_types::prelude::*;
 
 /// Keeps an answer from being thrown away unmade.
 fn go<T>(answer: T) {
@@ -290,4 +292,49 @@ pub fn growth(t: &mut Table) {
             t.row(&format!("{n} {name}"), each, bar);
         }
     }
+}
+
+/// Bar for making the builder and writing.
+const MADE: f64 = 0.3;
+
+/// Plain writing: the same bytes, and then both ways of the Rust.
+pub fn writing(t: &mut Table) {
+    t.heading("plain writing");
+    let long = list(&[jobs::words(1, &vec![16386; 131_062])]);
+    let many: Vec<_> = (0..31).map(|_| jobs::words(1, &mixed(100))).collect();
+    for (name, l) in [("10 small blocks", list(&jobs::ten())), ("31 blocks of 100 words", list(&many)), ("262,144 bytes", long)] {
+        let ready = jobs::builder(&l).unwrap();
+        let size = ready.calculate_size().unwrap();
+        let (mut out, mut theirs) = (vec![0xee; size], vec![0xee; size]);
+        let a = ours::write_plain(&l, &mut out);
+        assert_eq!((a.code, a.first as usize), (0, size), "{name}");
+        assert_eq!(jobs::written(&ready, &mut theirs).unwrap(), size);
+        assert_eq!(out, theirs, "{name}: the same bytes");
+        let p = pair(|| go(ours::write_plain(bb(&l), bb(&mut out))), || go(jobs::written(bb(&ready), bb(&mut theirs)).is_ok()));
+        t.row(&format!("{name}, against a ready XrBuilder"), p, BAR);
+        let p = pair(|| go(ours::write_plain(bb(&l), bb(&mut out))), || go(jobs::made_and_written(bb(&l), bb(&mut theirs))));
+        t.row(&format!("{name}, against making it and writing"), p, MADE);
+    }
+    refused_lists(t, &many);
+}
+
+fn refused_lists(t: &mut Table, many: &[Vec<u8>]) {
+    let mut out = vec![0xee; 300_000];
+    let mut theirs = out.clone();
+    let bad = [&list(many)[..], &jobs::record(6, &[])].concat();
+    assert_eq!(ours::write_plain(&bad, &mut out).code, 12);
+    assert!(jobs::builder(&bad).is_none());
+    let p = pair(|| go(ours::write_plain(bb(&bad), bb(&mut out))), || go(jobs::builder(bb(&bad)).is_none()));
+    t.row("12: the last of 32 records is bad, against making the builder up to it", p, MADE);
+    let more = list(&(0..32).map(|_| jobs::clock()).collect::<Vec<_>>());
+    assert_eq!(ours::write_plain(&more, &mut out).code, 14);
+    let p = pair(|| go(ours::write_plain(bb(&more), bb(&mut out))), || go(jobs::made_and_written(bb(&more), bb(&mut theirs))));
+    t.row("14: 32 clocks, against making the builder and writing", p, MADE);
+    let l = list(many);
+    let ready = jobs::builder(&l).unwrap();
+    assert_eq!(ours::write_plain(&l, &mut out[..100]).code, 11);
+    assert!(jobs::written(&ready, &mut theirs[..100]).is_err());
+    let p = pair(|| go(ours::write_plain(bb(&l), bb(&mut out[..100]))), || go(jobs::written(bb(&ready), bb(&mut theirs[..100])).is_err()));
+    t.row("11: 31 blocks of 100 words into room for 100 bytes, against a ready XrBuilder", p, BAR);
+    assert!(out.iter().all(|&x| x == 0xee), "nothing was written by a refused call");
 }

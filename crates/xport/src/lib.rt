@@ -1,4 +1,4 @@
-// The reading questions, for Rust and C: each takes numbers and slices and answers numbers. A slice is a pointer and
+// The reading questions and plain writing, for Rust and C: each takes numbers and slices and answers numbers. A slice is a pointer and
 // a length. A reading is a number: 0 the standard, anything else the crate's. A packet's blocks are counted from 0.
 ghost use mathlib.Core.Path.{_≡_};
 ghost use Rattle.def_wire.specs.Packet.{countOf, locate};
@@ -6,9 +6,11 @@ ghost use Rattle.def_standard.specs.Chunks.{wordBytes};
 ghost use Rattle.def_cursor.specs.Cursor.{cursor as here};
 ghost use Rattle.def_questions.specs.Packets.{timeAsked, pairsAsked, entriesAsked};
 ghost use Rattle.def_questions.specs.ByNumber.{fieldsBy, numbersBy, numbersViewBy, wordsBy};
+ghost use Rattle.def_jobs.specs.Writing.{packetOf};
 ghost use Rattle.flat.specs.Flat.{readingOf, flatOf, flatLocated, flatFields, flatTime, chunkAsked};
 ghost use Rattle.flat.specs.Lists.{FlatListed, FlatPairs, FlatEntries, FlatStretched};
 use def_cursor::Cursor;
+use def_jobs::Layout;
 use def_refusals::Answer;
 use def_wire::Located;
 use flat::Flat;
@@ -124,6 +126,14 @@ pub extern "C" fn xr_chunk(k: u8, value: u32, out: &mut [u8]) -> Flat
     ensures { λ a. ⌜ FlatListed (wordBytes (chunkAsked k value)) (now (out .entry)) a (now (out .exit)) ⌝ }
 {
     flat::answer(chunk::write_chunk(flat::kind(k, value), out))
+}
+
+// Writes the packet of a job list in the plain layout; what was found is its length: 12, 14, 11.
+#[no_mangle]
+pub extern "C" fn xr_write_plain(list: &[u8], out: &mut [u8]) -> Flat
+    ensures { λ a. ⌜ FlatListed (packetOf Layout.Plain (now (list .entry))) (now (out .entry)) a (now (out .exit)) ⌝ }
+{
+    flat::answer(write::write_plain(list, out))
 }
 
 // At most budget steps of the standard number cursor in block k, asked as type t (1 or 2): 1 to 6, 9, 10, 7, 16, 11.
