@@ -7,9 +7,7 @@ use Rattle.utils.proofs.pair.Reads as pair
 use Rattle.utils.proofs.join16.Reads as join16
 use Rattle.utils.proofs.join32.Reads as join32
 use Rattle.utils.proofs.byte_at.Reads as byte-at
-use Rattle.utils.proofs.load16.Reads as load16
 use Rattle.utils.proofs.load32.Reads as load32
-use Rattle.utils.proofs.load64.Reads as load64
 use Rattle.utils.proofs.u16_from_be_bytes.Reads as u16-from-be-bytes
 use Rattle.utils.proofs.u32_from_be_bytes.Reads as u32-from-be-bytes
 use Rattle.utils.proofs.u64_from_be_bytes.Reads as u64-from-be-bytes
@@ -33,14 +31,8 @@ join32-unique κs a r₁ r₂ s₁ s₂ p q = p ∙ sym q
 pub byte-at-unique : (κs : Lfts 1) → Fixes (byte-at.Post κs) (λ r s. r)
 byte-at-unique κs a r₁ r₂ s₁ s₂ p q = p ∙ sym q
 
-pub load16-unique : (κs : Lfts 1) → Fixes (load16.Post κs) (λ r s. r)
-load16-unique κs a r₁ r₂ s₁ s₂ p q = p ∙ sym q
-
 pub load32-unique : (κs : Lfts 1) → Fixes (load32.Post κs) (λ r s. r)
 load32-unique κs a r₁ r₂ s₁ s₂ p q = p ∙ sym q
-
-pub load64-unique : (κs : Lfts 1) → Fixes (load64.Post κs) (λ r s. r)
-load64-unique κs a r₁ r₂ s₁ s₂ p q = p ∙ sym q
 
 pub u16-from-be-bytes-unique : (κs : Lfts 1) → Fixes (u16-from-be-bytes.Post κs) (λ r s. r)
 u16-from-be-bytes-unique κs a r₁ r₂ s₁ s₂ p q = p ∙ sym q
