@@ -7,3 +7,4 @@ pub mod ZerosLaws
 pub mod FrameLaws
 pub mod BlockLaws
 pub mod JobLaws
+pub mod Unique

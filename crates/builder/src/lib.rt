@@ -65,8 +65,9 @@ pub fn write_padding(out: &mut [u8], at: usize, n: usize) -> usize
     if n == 0 {
         return at;
     }
+    let count = n as u8;
     let last = zero_bytes(out, at, n - 1);
-    out[last] = n as u8;
+    out[last] = count;
     last + 1
 }
 
