@@ -11,7 +11,7 @@ use Rattle.def_wire.specs.Bytes.{byteAt, four}
 use Rattle.def_wire.specs.Block.{receiptType, clockType}
 use Rattle.def_jobs.specs.declared.Layout.{Layout}
 use Rattle.def_jobs.specs.Jobs.{le32, le64, low16}
-use Rattle.def_jobs.specs.Layout.{head, withFields, zerosBehind}
+use Rattle.def_jobs.specs.Layout.{head, withFields, wordsBytes, zerosBehind}
 use Rattle.utils.proofs.BytesLaws.{Bytes}
 use Rattle.utils.proofs.StoresLaws.{four-low}
 use Rattle.builder.specs.Swapped.{word, number, swapped16, swapped32}
@@ -63,33 +63,24 @@ length-timeBytes : (body : List ℕ) → Fit body 4 → length (swapped32 (drop 
 length-timeBytes body f = omega (arith, length-swapped32 (drop 10 body), length-drop 10 body, f .items)
 
 module _ (layout : Layout) (kind : ℕ) (body : List ℕ) (fit : Fit body 2) where
+  length-behind : length (wordsBytes layout (low16 (drop 10 body)))
+      ≡ length body - 10 + 2 * zerosBehind layout (low16 (drop 10 body))
+  length-behind =
+      let z = 2 * zerosBehind layout (low16 (drop 10 body)) in
+      length-append (swapped16 (drop 10 body)) (replicate z 0)
+      ∙ ap₂ (λ (a b : ℕ). a + b) (length-wordBytes body fit) (length-replicate z 0)
+
   pub length-wordsBlock : length (wordsBlock kind layout body)
       ≡ 2 + length body + 2 * zerosBehind layout (low16 (drop 10 body))
-  length-wordsBlock =
-      let z = 2 * zerosBehind layout (low16 (drop 10 body)) in
-      omega (
-        arith,
-        fit .whole,
-        length-wordBytes body fit,
-        length-append (swapped16 (drop 10 body)) (replicate z 0),
-        length-replicate {A = ℕ} z 0,
-      )
+  length-wordsBlock = omega (arith, fit .whole, length-behind)
 
   pub words-wrote : {l m n o : List ℕ} {at i j r : ℕ} (zeros : ℕ) → zeros ≡ zerosBehind layout (low16 (drop 10 body))
       → Wrote l at (fieldsBytes kind (fieldsIn body) (length body - 2 + 2 * zeros)) m i
       → Wrote m i (swapped16 (drop 10 body)) n j → Wrote n j (replicate (2 * zeros) 0) o r
       → Wrote l at (wordsBlock kind layout body) o r
   words-wrote zeros e w x y =
-      let z = 2 * zerosBehind layout (low16 (drop 10 body)) in
-      with-fields body (swapped16 (drop 10 body) ++ replicate z 0) kind (length body - 2 + 2 * zeros)
-      (omega (
-        arith,
-        fit .whole,
-        length-wordBytes body fit,
-        length-append (swapped16 (drop 10 body)) (replicate z 0),
-        length-replicate {A = ℕ} z 0,
-      ))
-      w (and-then x (told (ap (λ (k : ℕ). replicate (2 * k) 0) e) y))
+      with-fields body (wordsBytes layout (low16 (drop 10 body))) kind (length body - 2 + 2 * zeros)
+      (omega (arith, fit .whole, length-behind)) w (and-then x (told (ap (λ (k : ℕ). replicate (2 * k) 0) e) y))
 
 pub times-wrote : (body : List ℕ) {l m n : List ℕ} {at i j : ℕ} → Fit body 4
     → Wrote l at (fieldsBytes receiptType (fieldsIn body) (length body - 2)) m i
