@@ -11,7 +11,7 @@ use Rattle.def_wire.specs.Bytes.{byteAt, four}
 use Rattle.def_wire.specs.Block.{receiptType, clockType}
 use Rattle.def_jobs.specs.declared.Layout.{Layout}
 use Rattle.def_jobs.specs.Jobs.{le32, le64, low16}
-use Rattle.def_jobs.specs.Layout.{head, withFields, zerosBehind}
+use Rattle.def_jobs.specs.Layout.{head, withFields, wordsBytes, zerosBehind}
 use Rattle.utils.proofs.BytesLaws.{Bytes}
 use Rattle.utils.proofs.StoresLaws.{four-low}
 use Rattle.builder.specs.Swapped.{word, number, swapped16, swapped32}
@@ -24,11 +24,11 @@ module _ (body : List ℕ) (bytes : Bytes body) where
   thinning-low : fieldsIn body .thinning ≤ 15 → byteAt body 8 ≡ fieldsIn body .thinning
   thinning-low h = omega arith
 
-  pub fields-wrote : (l m n o p : List ℕ) (at i kind behind : ℕ) → fieldsIn body .thinning ≤ 15
+  pub fields-wrote : {l m n o p : List ℕ} {at i : ℕ} (kind behind : ℕ) → fieldsIn body .thinning ≤ 15
       → Wrote l at (head kind (byteAt body 8) behind) m i → n ≡ sets m i (number body 0)
       → o ≡ sets n (i + 4) (word body 4) → p ≡ sets o (i + 4 + 2) (word body 6)
       → Wrote l at (fieldsBytes kind (fieldsIn body) behind) p (i + 4 + 2 + 2)
-  fields-wrote l m n o p at i kind behind h w x y z =
+  fields-wrote {l} {m} {n} {o} {p} {at} {i} kind behind h w x y z =
       told
       (ap₂ (λ (x y : List ℕ). x ++ y) (ap (λ (t : ℕ). head kind t behind) (thinning-low h))
       (ap₂ (λ (x y : List ℕ). x ++ y) (sym (four-number body bytes 0))
@@ -36,9 +36,9 @@ module _ (body : List ℕ) (bytes : Bytes body) where
       (and-then w (and-then (piece m n (number body 0) i x) (and-then (piece n o (word body 4) (i + 4) y)
       (piece o p (word body 6) (i + 4 + 2) z))))
 
-  pub clock-wrote : (l m n o : List ℕ) (at i : ℕ) → Wrote l at (head clockType 0 8) m i → n ≡ sets m i (number body 4)
+  pub clock-wrote : {l m n o : List ℕ} {at i : ℕ} → Wrote l at (head clockType 0 8) m i → n ≡ sets m i (number body 4)
       → o ≡ sets n (i + 4) (number body 0) → Wrote l at (clockBlock body) o (i + 4 + 4)
-  clock-wrote l m n o at i w x y =
+  clock-wrote {l} {m} {n} {o} {at} {i} w x y =
       let t = le64 body 0 in
       let small : le32 body 0 < 4294967296 = omega (arith, bytes 0, bytes 1, bytes 2, bytes 3) in
       let high : t / 4294967296 ≡ le32 body 4 = omega arith in
@@ -49,10 +49,10 @@ module _ (body : List ℕ) (bytes : Bytes body) where
       (and-then w (and-then (piece m n (number body 4) i x) (piece n o (number body 0) (i + 4) y)))
 
 -- a block with fields, and what stands behind them
-with-fields : (body rest : List ℕ) (l m n : List ℕ) (at i j kind behind : ℕ) → behind ≡ 8 + length rest
+with-fields : (body rest : List ℕ) {l m n : List ℕ} {at i j : ℕ} (kind behind : ℕ) → behind ≡ 8 + length rest
     → Wrote l at (fieldsBytes kind (fieldsIn body) behind) m i → Wrote m i rest n j
     → Wrote l at (withFields kind (fieldsIn body) rest) n j
-with-fields body rest l m n at i j kind behind e w x =
+with-fields body rest kind behind e w x =
     told (ap (λ (b : ℕ). fieldsBytes kind (fieldsIn body) b ++ rest) e) (and-then w x)
 
 -- whole items: so many bytes
@@ -63,37 +63,28 @@ length-timeBytes : (body : List ℕ) → Fit body 4 → length (swapped32 (drop 
 length-timeBytes body f = omega (arith, length-swapped32 (drop 10 body), length-drop 10 body, f .items)
 
 module _ (layout : Layout) (kind : ℕ) (body : List ℕ) (fit : Fit body 2) where
+  length-behind : length (wordsBytes layout (low16 (drop 10 body)))
+      ≡ length body - 10 + 2 * zerosBehind layout (low16 (drop 10 body))
+  length-behind =
+      let z = 2 * zerosBehind layout (low16 (drop 10 body)) in
+      length-append (swapped16 (drop 10 body)) (replicate z 0)
+      ∙ ap₂ (λ (a b : ℕ). a + b) (length-wordBytes body fit) (length-replicate z 0)
+
   pub length-wordsBlock : length (wordsBlock kind layout body)
       ≡ 2 + length body + 2 * zerosBehind layout (low16 (drop 10 body))
-  length-wordsBlock =
-      let z = 2 * zerosBehind layout (low16 (drop 10 body)) in
-      omega (
-        arith,
-        fit .whole,
-        length-wordBytes body fit,
-        length-append (swapped16 (drop 10 body)) (replicate z 0),
-        length-replicate {A = ℕ} z 0,
-      )
+  length-wordsBlock = omega (arith, fit .whole, length-behind)
 
-  pub words-wrote : (l m n o : List ℕ) (at i j r zeros : ℕ) → zeros ≡ zerosBehind layout (low16 (drop 10 body))
+  pub words-wrote : {l m n o : List ℕ} {at i j r : ℕ} (zeros : ℕ) → zeros ≡ zerosBehind layout (low16 (drop 10 body))
       → Wrote l at (fieldsBytes kind (fieldsIn body) (length body - 2 + 2 * zeros)) m i
       → Wrote m i (swapped16 (drop 10 body)) n j → Wrote n j (replicate (2 * zeros) 0) o r
       → Wrote l at (wordsBlock kind layout body) o r
-  words-wrote l m n o at i j r zeros e w x y =
-      let z = 2 * zerosBehind layout (low16 (drop 10 body)) in
-      with-fields body (swapped16 (drop 10 body) ++ replicate z 0) l m o at i r kind (length body - 2 + 2 * zeros)
-      (omega (
-        arith,
-        fit .whole,
-        length-wordBytes body fit,
-        length-append (swapped16 (drop 10 body)) (replicate z 0),
-        length-replicate {A = ℕ} z 0,
-      ))
-      w (and-then x (told (ap (λ (k : ℕ). replicate (2 * k) 0) e) y))
+  words-wrote zeros e w x y =
+      with-fields body (wordsBytes layout (low16 (drop 10 body))) kind (length body - 2 + 2 * zeros)
+      (omega (arith, fit .whole, length-behind)) w (and-then x (told (ap (λ (k : ℕ). replicate (2 * k) 0) e) y))
 
-pub times-wrote : (body l m n : List ℕ) (at i j : ℕ) → Fit body 4
+pub times-wrote : (body : List ℕ) {l m n : List ℕ} {at i j : ℕ} → Fit body 4
     → Wrote l at (fieldsBytes receiptType (fieldsIn body) (length body - 2)) m i
     → Wrote m i (swapped32 (drop 10 body)) n j → Wrote l at (timesBlock body) n j
-times-wrote body l m n at i j f w x =
-    with-fields body (swapped32 (drop 10 body)) l m n at i j receiptType (length body - 2)
+times-wrote body f w x =
+    with-fields body (swapped32 (drop 10 body)) receiptType (length body - 2)
     (omega (arith, f .whole, length-timeBytes body f)) w x

@@ -22,17 +22,16 @@ use Rattle.builder.specs.Blocks.{jobOf, Fit, itemSize, wordsBlock, times
 use Rattle.builder.specs.Blocks.{echoesBlock}
 
 -- which of kinds 1 to 3
-module _ (layout : Layout) (g : Ranged) (body : List ℕ) where
-  pub spans-words : (a : Rle) (kind : ℕ) → g ≡ Chunks a → kind ≡ rleType a
+module _ (layout : Layout) (body : List ℕ) {g : Ranged} where
+  pub spans-words : {a : Rle} {kind : ℕ} → g ≡ Chunks a → kind ≡ rleType a
       → spansBlock layout g body ≡ wordsBlock kind layout body
-  spans-words a kind e h =
-      ap (λ (x : Ranged). spansBlock layout x body) e ∙ ap (λ (k : ℕ). wordsBlock k layout body) (sym h)
+  spans-words e h = ap (λ (x : Ranged). spansBlock layout x body) e ∙ ap (λ (k : ℕ). wordsBlock k layout body) (sym h)
 
   pub spans-times : g ≡ Times → spansBlock layout g body ≡ timesBlock body
   spans-times e = ap (λ (x : Ranged). spansBlock layout x body) e
 
-  pub fit-as : (h : Ranged) → g ≡ h → Fit body (itemSize g) → Fit body (itemSize h)
-  fit-as h e f = subst (λ (x : Ranged). Fit body (itemSize x)) e f
+pub fit-as : (body : List ℕ) {g h : Ranged} → g ≡ h → Fit body (itemSize g) → Fit body (itemSize h)
+fit-as body e f = subst (λ (x : Ranged). Fit body (itemSize x)) e f
 
 -- a type number with a kind is a byte
 kindOf-none : (t : ℕ) → 6 ≤ t → kindOf t ≡ NoKind
@@ -56,7 +55,7 @@ fit kind bytes body h =
       items = eqb-true _ _ (q .1);
     }
 
-module _ (layout : Layout) (kind : ℕ) (body : List ℕ) where
+module _ (kind : ℕ) (body : List ℕ) where
   pub kind-byte : isBlockJob (jobOf kind body) ≡ true → kind < 256
   unfolding isBlockJob
   kind-byte h =
@@ -76,7 +75,8 @@ module _ (layout : Layout) (kind : ℕ) (body : List ℕ) where
   pub clock-fit : kindOf kind ≡ AKind Clock → isBlockJob (jobOf kind body) ≡ true → length body ≡ 8
   clock-fit e h = eqb-true _ _ (as-kind (AKind Clock) e h)
 
-  -- the block's bytes
+-- the block's bytes
+module _ (layout : Layout) (kind : ℕ) (body : List ℕ) where
   bytes-as : (k : KindOr) → kindOf kind ≡ k → bytesAs k layout (jobOf kind body) ≡ blockBytes layout (jobOf kind body)
   unfolding blockBytes
   bytes-as k e = sym (ap (λ (x : KindOr). bytesAs x layout (jobOf kind body)) e)

@@ -7,9 +7,9 @@ use mathlib.Core.Path.{_≡_, refl, sym, ap, ap₂, _∙_}
 use mathlib.Core.List.{List, [], _∷_, _++_}
 use native.Mathlib.Numerals.{add-one}
 use native.Mathlib.Omega.{arith}
-use lib.ListN.{length, getD, drop, length-drop, length-append}
+use lib.ListN.{length, getD, drop, length-drop}
 use lib.Seq.{drop-cons}
-use Rattle.def_wire.specs.Bytes.{byteAt, two, four}
+use Rattle.def_wire.specs.Bytes.{two, four}
 use Rattle.def_jobs.specs.Jobs.{le16, le32, pairLow, low16, low32}
 use Rattle.def_jobs.specs.Layout.{bytesOf}
 use Rattle.utils.proofs.BytesLaws.{Bytes}

@@ -1,7 +1,7 @@
 -- The laws of `zerosBehind`, by a count of words and the last word's two bytes. Assumes nothing.
 use Prim.Native.Nat.{ℕ, _+_, _*_, _-_, _/_, _%_, _≤_, _<_}
-use mathlib.Core.Path.{_≡_, refl, sym, ap, ap₂, _∙_}
-use mathlib.Core.Bool.{cond}
+use mathlib.Core.Path.{_≡_, sym, ap, ap₂, _∙_}
+use mathlib.Core.Bool.{Bool, true, false, cond}
 use mathlib.Core.List.{List}
 use native.Mathlib.Omega.{arith}
 use lib.Dec.{eqb, lit≤}
@@ -12,7 +12,7 @@ use Rattle.laws.proofs.Tests.{both}
 use Rattle.def_jobs.specs.declared.Layout.{Layout}
 use Rattle.def_jobs.specs.declared.Layout.the-variants.{Plain, Careful}
 use Rattle.def_jobs.specs.Jobs.{le16, low16}
-use Rattle.def_jobs.specs.Layout.{lastWord, zerosBehind}
+use Rattle.def_jobs.specs.Layout.{isOdd, lastWord, zerosBehind}
 use Rattle.builder.proofs.SwapLaws.{length-pairLow, getD-pairLow}
 
 -- the words of a body
@@ -21,6 +21,9 @@ wordsIn body = low16 (drop 10 body)
 
 pub length-words : (body : List ℕ) → length (wordsIn body) ≡ (length body - 10) / 2
 length-words body = length-pairLow 256 (drop 10 body) ∙ ap (λ (n : ℕ). n / 2) (length-drop 10 body)
+
+pub count-words : (body : List ℕ) (left : ℕ) → left ≡ length body - 10 → left / 2 ≡ length (wordsIn body)
+count-words body left e = omega (arith, length-words body)
 
 -- two zero words behind a last word that is not 0
 abbrev pub behindWord : ℕ → ℕ
@@ -53,24 +56,27 @@ module _ (body : List ℕ) (count : ℕ) (e : count ≡ length (wordsIn body)) w
     behind-zero e = rw (last-is h) (simp (eq-eqb (le16 body (8 + 2 * count)) 0 e))
 
 -- an odd count, and an even one in each layout
-module _ (ws : List ℕ) where
-  pub zerosBehind-odd : (layout : Layout) → length ws % 2 ≡ 1 → 1 ≡ zerosBehind layout ws
-  unfolding zerosBehind
-  zerosBehind-odd Plain e = simp (eq-eqb (length ws % 2) 1 e)
-  zerosBehind-odd Careful e = simp (eq-eqb (length ws % 2) 1 e)
+module _ (ws : List ℕ) (count : ℕ) (e : count ≡ length ws) where
+  odd-so : (b : Bool) → eqb (count % 2) 1 ≡ b → isOdd ws ≡ b
+  odd-so b h = sym (ap (λ (n : ℕ). eqb (n % 2) 1) e) ∙ h
 
-  pub zerosBehind-plain : (length ws % 2 ≡ 1 → ⊥) → 0 ≡ zerosBehind Plain ws
+  pub zerosBehind-odd : (layout : Layout) → count % 2 ≡ 1 → 1 ≡ zerosBehind layout ws
   unfolding zerosBehind
-  zerosBehind-plain e = simp (ne-eqb (length ws % 2) 1 e)
+  zerosBehind-odd Plain h = simp (odd-so true (eq-eqb (count % 2) 1 h))
+  zerosBehind-odd Careful h = simp (odd-so true (eq-eqb (count % 2) 1 h))
 
-  pub zerosBehind-careful : (length ws % 2 ≡ 1 → ⊥)
-      → cond (eqb (lastWord ws) 0) 0 2 ≡ zerosBehind Careful ws
+  pub zerosBehind-plain : (count % 2 ≡ 1 → ⊥) → 0 ≡ zerosBehind Plain ws
   unfolding zerosBehind
-  zerosBehind-careful e = simp (ne-eqb (length ws % 2) 1 e)
+  zerosBehind-plain h = simp (odd-so false (ne-eqb (count % 2) 1 h))
 
-  pub zerosBehind-le : (layout : Layout) → zerosBehind layout ws ≤ 2
+  pub zerosBehind-careful : (count % 2 ≡ 1 → ⊥) → behindWord (lastWord ws) ≡ zerosBehind Careful ws
   unfolding zerosBehind
-  zerosBehind-le Plain = both (λ (n : ℕ). n ≤ 2) (eqb (length ws % 2) 1) (λ t. lit≤ tt) (λ f. lit≤ tt)
-  zerosBehind-le Careful =
-      both (λ (n : ℕ). n ≤ 2) (eqb (length ws % 2) 1) (λ t. lit≤ tt)
-      (λ f. both (λ (n : ℕ). n ≤ 2) (eqb (lastWord ws) 0) (λ t. lit≤ tt) (λ g. lit≤ tt))
+  zerosBehind-careful h = simp (odd-so false (ne-eqb (count % 2) 1 h))
+
+-- never more than two
+pub zerosBehind-le : (ws : List ℕ) (layout : Layout) → zerosBehind layout ws ≤ 2
+unfolding zerosBehind
+zerosBehind-le ws Plain = both (λ (n : ℕ). n ≤ 2) (isOdd ws) (λ t. lit≤ tt) (λ f. lit≤ tt)
+zerosBehind-le ws Careful =
+    both (λ (n : ℕ). n ≤ 2) (isOdd ws) (λ t. lit≤ tt)
+    (λ f. both (λ (n : ℕ). n ≤ 2) (eqb (lastWord ws) 0) (λ t. lit≤ tt) (λ g. lit≤ tt))

@@ -11,6 +11,7 @@ use lib.Seq.{sets}
 use Rattle.def_wire.specs.Bytes.{byteAt, two, four}
 use Rattle.def_jobs.specs.Jobs.{low16, low32}
 use Rattle.def_jobs.specs.Layout.{bytesOf}
+use Rattle.builder.specs.Eights.{eightAt, bytesIn, turned2, turned4}
 
 abbrev pub swapped16 : List ℕ → List ℕ
 swapped16 s = bytesOf two (low16 s)
@@ -25,12 +26,10 @@ abbrev pub number : List ℕ → ℕ → List ℕ
 number s k = byteAt s (k + 3) ∷ byteAt s (k + 2) ∷ byteAt s (k + 1) ∷ byteAt s k ∷ []
 
 abbrev pub words4 : List ℕ → ℕ → List ℕ
-words4 s k = byteAt s (k + 1) ∷ byteAt s k ∷ byteAt s (k + 3) ∷ byteAt s (k + 2)
-    ∷ byteAt s (k + 5) ∷ byteAt s (k + 4) ∷ byteAt s (k + 7) ∷ byteAt s (k + 6) ∷ []
+words4 s k = bytesIn (turned2 (eightAt s k))
 
 abbrev pub numbers2 : List ℕ → ℕ → List ℕ
-numbers2 s k = byteAt s (k + 3) ∷ byteAt s (k + 2) ∷ byteAt s (k + 1) ∷ byteAt s k
-    ∷ byteAt s (k + 7) ∷ byteAt s (k + 6) ∷ byteAt s (k + 5) ∷ byteAt s (k + 4) ∷ []
+numbers2 s k = bytesIn (turned4 (eightAt s k))
 
 -- of the list `whole`, to be stored in l₀ from i on, what is left goes into l from n on
 pub record Storing (l₀ : List ℕ) (i : ℕ) (whole l : List ℕ) (n : ℕ) (rest : List ℕ) : Type 0 where

@@ -7,7 +7,7 @@ mod zeros;
 ghost use mathlib.Core.Path.{_≡_};
 ghost use mathlib.Core.Bool.{true};
 ghost use mathlib.Core.List.{_∷_, _++_};
-ghost use Prim.Native.Nat.{_+_, _-_, _/_, _%_, _≤_};
+ghost use Prim.Native.Nat.{_+_, _-_, _/_, _≤_};
 ghost use lib.ListN.{length, replicate};
 ghost use Rattle.def_wire.specs.Bytes.{two, four};
 ghost use Rattle.laws.specs.Stores.{Wrote};
@@ -32,7 +32,8 @@ fn first_byte(padding: usize) -> u8
 }
 
 // A packet's first eight bytes: `size` bytes in all, of which `padding` stand behind the blocks.
-// Port of: mod.rs XrBuilder::write_into_unchecked; differs: padding sets P.
+// Port of: mod.rs XrBuilder::write_into_unchecked; differs: padding sets P, and a buffer of less than eight bytes takes
+// what there is room for.
 pub fn write_header(out: &mut [u8], padding: usize, size: usize, sender: u32) -> usize
     ensures { λ r. ⌜ Wrote (now (out .entry)) 0
         (firstByte padding ∷ 207 ∷ two ((size - 4) / 4) ++ four sender) (now (out .exit)) r ⌝ }
@@ -57,7 +58,7 @@ fn zero_bytes(out: &mut [u8], at: usize, count: usize) -> usize
     n
 }
 
-// The padding of so many bytes: zeros, and their count last (RFC 3550, 6.4.1).
+// The padding of so many bytes: zeros, and their count last (RFC 3550, 6.4.1). The Rust's XrBuilder has none.
 pub fn write_padding(out: &mut [u8], at: usize, n: usize) -> usize
     requires { ⌜ (n ≤ 252) × (at + n ≤ length (now out)) ⌝ }
     ensures { λ r. ⌜ Wrote (now (out .entry)) at (paddingBytes n) (now (out .exit)) r ⌝ }
@@ -65,8 +66,9 @@ pub fn write_padding(out: &mut [u8], at: usize, n: usize) -> usize
     if n == 0 {
         return at;
     }
+    let count = n as u8;
     let last = zero_bytes(out, at, n - 1);
-    out[last] = n as u8;
+    out[last] = count;
     last + 1
 }
 
@@ -152,6 +154,7 @@ fn write_echoes(body: &[u8], out: &mut [u8], at: usize) -> usize
     swap::swap32(body, 0, out, entries)
 }
 
+// A block with a range, of type 1, 2 or 3.
 fn write_spans(layout: Layout, g: Ranged, body: &[u8], out: &mut [u8], at: usize) -> usize
     requires { ⌜ Fit (now body) (itemSize g) × (at + length (spansBlock layout g (now body)) ≤ length (now out)) ⌝ }
     ensures { λ r. ⌜ Wrote (now (out .entry)) at (spansBlock layout g (now (body .entry))) (now (out .exit)) r ⌝ }
@@ -162,7 +165,8 @@ fn write_spans(layout: Layout, g: Ranged, body: &[u8], out: &mut [u8], at: usize
     }
 }
 
-// The block that a record of a kind asks for. Port of: mod.rs XrBuilder's blocks, each by its own builder.
+// The block that a good record asks for, where there is room for it; gives the index past it. Port of: the blocks of
+// mod.rs XrBuilder::write_into_unchecked.
 pub fn write_block(layout: Layout, kind: u16, body: &[u8], out: &mut [u8], at: usize) -> usize
     requires { ⌜ (isBlockJob (jobOf kind (now body)) ≡ true)
         × (at + length (blockBytes layout (jobOf kind (now body))) ≤ length (now out)) ⌝ }

@@ -7,6 +7,7 @@ ghost use lib.ListN.{length, drop};
 ghost use lib.Seq.{sets};
 ghost use Rattle.laws.specs.Stores.{Wrote};
 ghost use Rattle.builder.specs.Swapped.{swapped16, swapped32, word, number, words4, numbers2, Storing};
+ghost use Rattle.builder.specs.Eights.{eightAt, bytesIn, turned2, turned4};
 
 // The 16-bit number at k.
 pub(crate) fn put_word(body: &[u8], k: usize, out: &mut [u8], n: usize)
@@ -34,27 +35,86 @@ pub(crate) fn put_number(body: &[u8], k: usize, out: &mut [u8], n: usize)
     out[n + 3] = a;
 }
 
+// Eight bytes at once, in order.
+pub(crate) struct Eight {
+    pub(crate) a: u8,
+    pub(crate) b: u8,
+    pub(crate) c: u8,
+    pub(crate) d: u8,
+    pub(crate) e: u8,
+    pub(crate) f: u8,
+    pub(crate) g: u8,
+    pub(crate) h: u8,
+}
+
+fn load8(body: &[u8], k: usize) -> Eight
+    requires { ⌜ k + 8 ≤ length (now body) ⌝ }
+    ensures { λ r. ⌜ r ≡ eightAt (now (body .entry)) k ⌝ }
+{
+    Eight {
+        a: body[k],
+        b: body[k + 1],
+        c: body[k + 2],
+        d: body[k + 3],
+        e: body[k + 4],
+        f: body[k + 5],
+        g: body[k + 6],
+        h: body[k + 7],
+    }
+}
+
+fn store8(out: &mut [u8], n: usize, x: Eight)
+    requires { ⌜ n + 8 ≤ length (now out) ⌝ }
+    ensures { λ _. ⌜ now (out .exit) ≡ sets (now (out .entry)) n (bytesIn x) ⌝ }
+{
+    out[n] = x.a;
+    out[n + 1] = x.b;
+    out[n + 2] = x.c;
+    out[n + 3] = x.d;
+    out[n + 4] = x.e;
+    out[n + 5] = x.f;
+    out[n + 6] = x.g;
+    out[n + 7] = x.h;
+}
+
+// The two bytes of each of four words turned round.
+fn turn2(x: Eight) -> Eight
+    ensures { λ r. ⌜ r ≡ turned2 x ⌝ }
+{
+    Eight {
+        a: x.b,
+        b: x.a,
+        c: x.d,
+        d: x.c,
+        e: x.f,
+        f: x.e,
+        g: x.h,
+        h: x.g,
+    }
+}
+
+// The four bytes of each of two numbers turned round.
+fn turn4(x: Eight) -> Eight
+    ensures { λ r. ⌜ r ≡ turned4 x ⌝ }
+{
+    Eight {
+        a: x.d,
+        b: x.c,
+        c: x.b,
+        d: x.a,
+        e: x.h,
+        f: x.g,
+        g: x.f,
+        h: x.e,
+    }
+}
+
 // Four 16-bit numbers from k on.
 fn put_words4(body: &[u8], k: usize, out: &mut [u8], n: usize)
     requires { ⌜ (k + 8 ≤ length (now body)) × (n + 8 ≤ length (now out)) ⌝ }
     ensures { λ _. ⌜ now (out .exit) ≡ sets (now (out .entry)) n (words4 (now (body .entry)) k) ⌝ }
 {
-    let a = body[k];
-    let b = body[k + 1];
-    let c = body[k + 2];
-    let d = body[k + 3];
-    let e = body[k + 4];
-    let f = body[k + 5];
-    let g = body[k + 6];
-    let h = body[k + 7];
-    out[n] = b;
-    out[n + 1] = a;
-    out[n + 2] = d;
-    out[n + 3] = c;
-    out[n + 4] = f;
-    out[n + 5] = e;
-    out[n + 6] = h;
-    out[n + 7] = g;
+    store8(out, n, turn2(load8(body, k)));
 }
 
 // Two 32-bit numbers from k on.
@@ -62,22 +122,7 @@ fn put_numbers2(body: &[u8], k: usize, out: &mut [u8], n: usize)
     requires { ⌜ (k + 8 ≤ length (now body)) × (n + 8 ≤ length (now out)) ⌝ }
     ensures { λ _. ⌜ now (out .exit) ≡ sets (now (out .entry)) n (numbers2 (now (body .entry)) k) ⌝ }
 {
-    let a = body[k];
-    let b = body[k + 1];
-    let c = body[k + 2];
-    let d = body[k + 3];
-    let e = body[k + 4];
-    let f = body[k + 5];
-    let g = body[k + 6];
-    let h = body[k + 7];
-    out[n] = d;
-    out[n + 1] = c;
-    out[n + 2] = b;
-    out[n + 3] = a;
-    out[n + 4] = h;
-    out[n + 5] = g;
-    out[n + 6] = f;
-    out[n + 7] = e;
+    store8(out, n, turn4(load8(body, k)));
 }
 
 // Fours of words, as long as there are any; gives the first byte that is left.

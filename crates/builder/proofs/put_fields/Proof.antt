@@ -13,10 +13,8 @@ returns c = let w2 = c .before .before in
     let s = h .before .before .before in
     let b = s .before .before in
     let bytes : Bytes (b .args .body .now) = λ i. s .shared-slice-known .given i .fits in
-    fields-wrote (b .args .body .now) bytes (b .args .out .now) (h .put-head .last .0) (n .put-number .last .1 .1 .0)
-    (w1 .put-word .last .1 .1 .0) (w2 .put-word2 .last .1 .1 .0) (b .args .at) (h .put-head .result) (b .args .kind)
-    (b .args .behind) (b .pre .1) (h .put-head .ensures) (n .put-number .ensures) (w1 .put-word .ensures)
-    (w2 .put-word2 .ensures)
+    fields-wrote (b .args .body .now) bytes (b .args .kind) (b .args .behind) (b .pre .1) (h .put-head .ensures)
+    (n .put-number .ensures) (w1 .put-word .ensures) (w2 .put-word2 .ensures)
 
 pub put-fields-spec : {M : Type 1} → statement M
 put-fields-spec =

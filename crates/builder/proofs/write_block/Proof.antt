@@ -1,5 +1,6 @@
 -- `builder::write_block` meets its contract: the block that a record asks for.
-use Rattle.builder.proofs.JobLaws.{kind-byte, spans-fit, clock-fit, spans-bytes, clock-bytes, echoes-bytes, none-bytes}
+use Rattle.builder.proofs.JobLaws.{kind-byte, spans-fit, clock-fit, spans-bytes, clock-bytes, echoes-bytes}
+use Rattle.builder.proofs.JobLaws.{none-bytes}
 use Rattle.builder.proofs.StoringLaws.{told, room-told}
 use Rattle.laws.proofs.Stores.{none}
 use mathlib.Core.Path.{_≡_, sym, ap, _∙_}
@@ -17,7 +18,7 @@ kind-is c = sym (c .before .before .before .kind-of .ensures) ∙ c .before .k .
 
 cast-kind-of : tie.Need-cast-kind-of
 cast-kind-of c = let b = c .before .before in
-    omega (arith, kind-byte (b .args .layout) (b .args .kind) (b .args .body .now) (b .pre .0))
+    omega (arith, kind-byte (b .args .kind) (b .args .body .now) (b .pre .0))
 
 write-spans-requires : tie.Need-write-spans-requires
 write-spans-requires c κs = let t = c .before .before in
@@ -25,7 +26,7 @@ write-spans-requires c κs = let t = c .before .before in
     let b = k .before .before .before .before .before .before in
     let a = b .args in
     let e = kind-is k ∙ ap AKind (t .k2 .given .1) in (
-      spans-fit (a .layout) (a .kind) (a .body .now) (t .k2 .given .0 .0) e (b .pre .0),
+      spans-fit (a .kind) (a .body .now) (t .k2 .given .0 .0) e (b .pre .0),
       room-told (a .at) (sym (spans-bytes (a .layout) (a .kind) (a .body .now) (t .k2 .given .0 .0) e)) (b .pre .1),
     )
 
@@ -35,7 +36,7 @@ write-clock-requires c κs = let t = c .before in
     let b = k .before .before .before .before .before .before in
     let a = b .args in
     let e = kind-is k ∙ ap AKind (t .enum-told .given .1) in (
-      clock-fit (a .layout) (a .kind) (a .body .now) e (b .pre .0),
+      clock-fit (a .kind) (a .body .now) e (b .pre .0),
       room-told (a .at) (sym (clock-bytes (a .layout) (a .kind) (a .body .now) e)) (b .pre .1),
     )
 

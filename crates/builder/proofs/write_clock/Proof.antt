@@ -6,16 +6,14 @@ use Rattle.builder.proofs.write_clock.Statement.{statement}
 use Rattle.builder.proofs.write_clock.Tie as tie
 
 returns : tie.Need-returns
-returns c = let m = c .before .before in
+returns c =
+    let m = c .before .before in
     let n = m .before .before .before .before in
     let h = n .before .before .before .before in
     let s = h .before .before .before in
-    let a = h .before .before .before in
-    let b = h .before .before .before .before in
-    let bytes : Bytes (b .args .body .now) = λ i. a .shared-slice-known .given i .fits in
-    clock-wrote (b .args .body .now) bytes (b .args .out .now) (h .put-head .last .0) (n .put-number .last .1 .1 .0)
-    (m .put-number2 .last .1 .1 .0) (b .args .at) (h .put-head .result) (h .put-head .ensures)
-    (n .put-number .ensures) (m .put-number2 .ensures)
+    let body = s .before .args .body .now in
+    let bytes : Bytes body = λ i. s .shared-slice-known .given i .fits in
+    clock-wrote body bytes (h .put-head .ensures) (n .put-number .ensures) (m .put-number2 .ensures)
 
 pub write-clock-spec : {M : Type 1} → statement M
 write-clock-spec =

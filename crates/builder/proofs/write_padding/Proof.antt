@@ -33,5 +33,5 @@ returns-2 c = let p = c .before .before in
 pub write-padding-spec : {M : Type 1} → statement M
 write-padding-spec =
     tie.close
-    (tie.spec returns (λ c. search needs) (λ c κs. search needs) (λ c. search needs) slice-write-out add-result
+    (tie.spec returns (λ c. search needs) (λ c. search needs) (λ c κs. search needs) slice-write-out add-result
     (λ c. search needs) returns-2)

@@ -8,8 +8,7 @@ returns : tie.Need-returns
 returns c = let w = c .before .before in
     let h = w .before .before .before .before in
     let b = h .before .before .before .before in
-    times-wrote (b .args .body .now) (b .args .out .now) (h .put-fields .last .0) (w .swap32 .last .1 .1 .0) (b .args .at)
-    (h .put-fields .result) (w .swap32 .result) (b .pre .0) (h .put-fields .ensures) (w .swap32 .ensures)
+    times-wrote (b .args .body .now) (b .pre .0) (h .put-fields .ensures) (w .swap32 .ensures)
 
 pub write-times-spec : {M : Type 1} → statement M
 write-times-spec =

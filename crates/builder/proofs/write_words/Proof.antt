@@ -60,10 +60,8 @@ returns c = let y = c .before .before in
     let z = f .before .before in
     let b = z .before .before .before in
     let a = b .args in
-    words-wrote (a .layout) (a .kind) (a .body .now) (b .pre .0) (a .out .now) (f .put-fields .last .0)
-    (s .swap16 .last .1 .1 .0) (y .zero-bytes .last .0) (a .at) (f .put-fields .result) (s .swap16 .result)
-    (y .zero-bytes .result) (z .zeros-behind .result) (z .zeros-behind .ensures) (f .put-fields .ensures)
-    (s .swap16 .ensures) (y .zero-bytes .ensures)
+    words-wrote (a .layout) (a .kind) (a .body .now) (b .pre .0) (z .zeros-behind .result) (z .zeros-behind .ensures)
+    (f .put-fields .ensures) (s .swap16 .ensures) (y .zero-bytes .ensures)
 
 pub write-words-spec : {M : Type 1} → statement M
 write-words-spec =

@@ -1,10 +1,9 @@
 -- `builder::zero_bytes` meets its contract: zero bytes one by one.
 use Rattle.builder.proofs.FrameLaws.{zeros-begun, zeros-next, zeros-none}
 use Rattle.builder.proofs.StoringLaws.{turned, ended}
-use native.Mathlib.Omega.{arith}
 use mathlib.Core.Path.{refl}
 use mathlib.Core.List.{[], _∷_}
-use Prim.Native.Nat.{ℕ, _+_, _-_, _≤_}
+use Prim.Native.Nat.{_+_, _-_, _≤_}
 use lib.ListN.{replicate}
 use borrow.Author.Needs.{needs}
 use Rattle.builder.specs.Swapped.{Storing}
@@ -22,22 +21,18 @@ loop-holds : tie.Need-loop-holds Inv-loop μ-loop
 loop-holds c = (search needs, zeros-begun (c .args .out .now) (c .args .at) (c .args .count))
 
 loop-again : tie.Need-loop-again Inv-loop μ-loop
-loop-again c = let l = c .before in
-    let a = l .before .args in
-    let end = a .at + a .count in
-    let n = l .loop .n in (
-      search needs,
-      turned (a .out .now) (a .at) (replicate (a .count) 0) (l .loop .out) n (replicate (end - n) 0) (l .loop .inv .1)
-          (0 ∷ []) (replicate (end - (n + 1)) 0) _ (n + 1) (zeros-next n end (c .loop-test .taken)) refl refl,
-    )
+loop-again c =
+    let l = c .before in
+    let end = l .before .args .at + l .before .args .count in
+    let n = l .loop .n in
+    let more = zeros-next n end (c .loop-test .taken) in
+    (search needs, turned (l .loop .inv .1) (0 ∷ []) (replicate (end - (n + 1)) 0) more refl refl)
 
 returns : tie.Need-returns Inv-loop μ-loop
-returns c = let l = c .before in
-    let a = l .before .args in
-    let end = a .at + a .count in
-    let n = l .loop .n in
-    ended (a .out .now) (a .at) (replicate (a .count) 0) (l .loop .out) n (replicate (end - n) 0) (l .loop .inv .1)
-    (zeros-none n end (c .loop-test .left))
+returns c =
+    let l = c .before in
+    let end = l .before .args .at + l .before .args .count in
+    ended (l .loop .inv .1) (zeros-none (l .loop .n) end (c .loop-test .left))
 
 pub zero-bytes-spec : {M : Type 1} → statement M
 zero-bytes-spec =

@@ -1,5 +1,5 @@
 -- `builder::swap::pairs` meets its contract: pairs of 32-bit numbers.
-use Prim.Native.Nat.{ℕ, _+_, _-_}
+use Prim.Native.Nat.{_+_, _-_}
 use mathlib.Core.Path.{_≡_, refl}
 use mathlib.Core.List.{_++_}
 use native.Mathlib.Omega.{arith}
@@ -20,22 +20,22 @@ abbrev μ-loop : tie.MeasureT-loop
 
 -- the next piece of what is left
 next : (c : tie.In-loop Inv-loop μ-loop)
-    → let l = c .before in
-    let body = l .before .before .before .args .body .now in
-    swapped32 (drop (l .loop .k) body) ≡ numbers2 body (l .loop .k) ++ swapped32 (drop (l .loop .k + 8) body)
+    → let k = c .before .loop .k in
+    let body = c .before .before .before .before .args .body .now in
+    swapped32 (drop k body) ≡ numbers2 body k ++ swapped32 (drop (k + 8) body)
 next c =
     let l = c .before in
     let s = l .before .before in
     let bytes : Bytes (s .before .args .body .now) = λ i. s .shared-slice-known .given i .fits in
-    swapped32-two (s .before .args .body .now) bytes (l .loop .k) (omega (arith, c .loop-test .taken, l .loop .inv .high))
+    swapped32-two (s .before .args .body .now) bytes (l .loop .k)
+    (omega (arith, c .loop-test .taken, l .loop .inv .high))
 
 put-numbers2-requires : tie.Need-put-numbers2-requires Inv-loop μ-loop
 put-numbers2-requires c κs =
     let l = c .before .before in
     let b = l .before .before .before in (
       omega (arith, c .before .loop-test .taken, l .loop .inv .high),
-      going-room swapped32 (b .args .body .now) (b .args .from) (b .args .out .now) (b .args .at) (l .loop .out) (l .loop .k)
-          (l .loop .n) (l .loop .inv) (numbers2 (b .args .body .now) (l .loop .k)) 8 (next (c .before)) (b .pre .1),
+      going-room (l .loop .inv) (numbers2 (b .args .body .now) (l .loop .k)) 8 (next (c .before)) (b .pre .1),
     )
 
 loop-again : tie.Need-loop-again Inv-loop μ-loop
@@ -43,10 +43,9 @@ loop-again c =
     let p = c .before .before in
     let t = p .before .before in
     let l = t .before in
-    let b = l .before .before .before in
-    going-turned swapped32 (b .args .body .now) (b .args .from) (b .args .out .now) (b .args .at) (l .loop .out)
-    (l .loop .k) (l .loop .n) (l .loop .inv) (numbers2 (b .args .body .now) (l .loop .k)) 8 (next t)
-    (p .put-numbers2 .last .1 .1 .0) (omega (arith, t .loop-test .taken, l .loop .inv .high)) refl (p .put-numbers2 .ensures)
+    let body = l .before .before .before .args .body .now in
+    going-turned (l .loop .inv) (numbers2 body (l .loop .k)) 8 (next t)
+    (omega (arith, t .loop-test .taken, l .loop .inv .high)) refl (p .put-numbers2 .ensures)
 
 returns : tie.Need-returns Inv-loop μ-loop
 returns c =

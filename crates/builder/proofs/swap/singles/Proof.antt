@@ -1,5 +1,5 @@
 -- `builder::swap::singles` meets its contract: 32-bit numbers one by one.
-use Prim.Native.Nat.{ℕ, _+_, _-_}
+use Prim.Native.Nat.{_+_, _-_}
 use mathlib.Core.Path.{_≡_, refl}
 use mathlib.Core.List.{_++_}
 use native.Mathlib.Omega.{arith}
@@ -20,22 +20,22 @@ abbrev μ-loop : tie.MeasureT-loop
 
 -- the next piece of what is left
 next : (c : tie.In-loop Inv-loop μ-loop)
-    → let l = c .before in
-    let body = l .before .before .before .args .body .now in
-    swapped32 (drop (l .loop .k) body) ≡ number body (l .loop .k) ++ swapped32 (drop (l .loop .k + 4) body)
+    → let k = c .before .loop .k in
+    let body = c .before .before .before .before .args .body .now in
+    swapped32 (drop k body) ≡ number body k ++ swapped32 (drop (k + 4) body)
 next c =
     let l = c .before in
     let s = l .before .before in
     let bytes : Bytes (s .before .args .body .now) = λ i. s .shared-slice-known .given i .fits in
-    swapped32-one (s .before .args .body .now) bytes (l .loop .k) (omega (arith, c .loop-test .taken, l .loop .inv .high))
+    swapped32-one (s .before .args .body .now) bytes (l .loop .k)
+    (omega (arith, c .loop-test .taken, l .loop .inv .high))
 
 put-number-requires : tie.Need-put-number-requires Inv-loop μ-loop
 put-number-requires c κs =
     let l = c .before .before in
     let b = l .before .before .before in (
       omega (arith, c .before .loop-test .taken, l .loop .inv .high),
-      going-room swapped32 (b .args .body .now) (b .args .from) (b .args .out .now) (b .args .at) (l .loop .out) (l .loop .k)
-          (l .loop .n) (l .loop .inv) (number (b .args .body .now) (l .loop .k)) 4 (next (c .before)) (b .pre .1),
+      going-room (l .loop .inv) (number (b .args .body .now) (l .loop .k)) 4 (next (c .before)) (b .pre .1),
     )
 
 loop-again : tie.Need-loop-again Inv-loop μ-loop
@@ -43,18 +43,15 @@ loop-again c =
     let p = c .before .before in
     let t = p .before .before in
     let l = t .before in
-    let b = l .before .before .before in
-    going-turned swapped32 (b .args .body .now) (b .args .from) (b .args .out .now) (b .args .at) (l .loop .out)
-    (l .loop .k) (l .loop .n) (l .loop .inv) (number (b .args .body .now) (l .loop .k)) 4 (next t)
-    (p .put-number .last .1 .1 .0) (omega (arith, t .loop-test .taken, l .loop .inv .high)) refl (p .put-number .ensures)
+    let body = l .before .before .before .args .body .now in
+    going-turned (l .loop .inv) (number body (l .loop .k)) 4 (next t)
+    (omega (arith, t .loop-test .taken, l .loop .inv .high)) refl (p .put-number .ensures)
 
 returns : tie.Need-returns Inv-loop μ-loop
 returns c =
     let l = c .before in
-    let b = l .before .before .before in
-    going-ended swapped32 (b .args .body .now) (b .args .from) (b .args .out .now) (b .args .at) (l .loop .out) (l .loop .k)
-    (l .loop .n) (l .loop .inv)
-    (swapped32-end (b .args .body .now) (l .loop .k) (omega (arith, c .loop-test .left)))
+    let body = l .before .before .before .args .body .now in
+    going-ended (l .loop .inv) (swapped32-end body (l .loop .k) (omega (arith, c .loop-test .left)))
 
 pub singles-spec : {M : Type 1} → statement M
 singles-spec =

@@ -1,6 +1,5 @@
 -- `builder::zeros::behind_last` meets its contract: two zero words behind a last word that is not 0.
 use Rattle.builder.proofs.ZerosLaws.{length-words, behind-none, behind-two, behind-zero}
-use Prim.Native.Nat.{_+_, _*_, _<_}
 use native.Mathlib.Omega.{arith}
 use Rattle.builder.proofs.zeros.behind_last.Statement.{statement}
 use Rattle.builder.proofs.zeros.behind_last.Tie as tie
