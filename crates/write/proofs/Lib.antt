@@ -2,3 +2,4 @@
 -- answer).
 pub mod BlocksTurn
 pub mod PacketLaws
+pub mod Unique

@@ -13,6 +13,7 @@ use Rattle.xport.proofs.xr_words.Reads as xr-words
 use Rattle.xport.proofs.xr_pairs.Reads as xr-pairs
 use Rattle.xport.proofs.xr_entries.Reads as xr-entries
 use Rattle.xport.proofs.xr_chunk.Reads as xr-chunk
+use Rattle.xport.proofs.xr_write_plain.Reads as xr-write-plain
 use Rattle.xport.proofs.xr_cursor.Reads as xr-cursor
 
 pub xr-count-unique : (κs : Lfts 1) → Fixes (xr-count.Post κs) (λ r s. r)
@@ -71,6 +72,12 @@ xr-chunk-unique κs a r₁ r₂ s₁ s₂ p q = p .answer ∙ sym (q .answer)
 
 pub xr-chunk-unique-out : (κs : Lfts 1) → Fixes (xr-chunk.Post κs) (λ r s. s .1 .1 .0 .now)
 xr-chunk-unique-out κs a r₁ r₂ s₁ s₂ p q = p .filled ∙ sym (q .filled)
+
+pub xr-write-plain-unique : (κs : Lfts 2) → Fixes (xr-write-plain.Post κs) (λ r s. r)
+xr-write-plain-unique κs a r₁ r₂ s₁ s₂ p q = p .answer ∙ sym (q .answer)
+
+pub xr-write-plain-unique-out : (κs : Lfts 2) → Fixes (xr-write-plain.Post κs) (λ r s. s .1 .0 .now)
+xr-write-plain-unique-out κs a r₁ r₂ s₁ s₂ p q = p .filled ∙ sym (q .filled)
 
 pub xr-cursor-unique : (κs : Lfts 2) → Fixes (xr-cursor.Post κs) (λ r s. r)
 xr-cursor-unique κs a r₁ r₂ s₁ s₂ p q = p .answer ∙ sym (q .answer)
