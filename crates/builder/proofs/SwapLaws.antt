@@ -8,7 +8,8 @@ use mathlib.Core.List.{List, [], _∷_, _++_}
 use native.Mathlib.Numerals.{add-one}
 use native.Mathlib.Omega.{arith}
 use lib.ListN.{length, getD, drop, length-drop}
-use lib.Seq.{drop-cons}
+use lib.Seq.{sets, drop-cons}
+use Rattle.laws.proofs.Stores.{sets-append}
 use Rattle.def_wire.specs.Bytes.{two, four}
 use Rattle.def_jobs.specs.Jobs.{le16, le32, pairLow, low16, low32}
 use Rattle.def_jobs.specs.Layout.{bytesOf}
@@ -82,6 +83,13 @@ pub swapped32-end : (s : List ℕ) (k : ℕ) → length s ≤ k + 3 → swapped3
 swapped32-end s k h =
     ap (bytesOf four) (pairLow-short 65536 (low16 (drop k s)) (omega
     (arith, length-pairLow 256 (drop k s), length-drop k s)))
+
+-- ---- a number's high word, and then its low word
+pub number-stored : (s l : List ℕ) {m o : List ℕ} (n k : ℕ) → m ≡ sets l n (word s (k + 2))
+    → o ≡ sets m (n + 2) (word s k) → o ≡ sets l n (number s k)
+number-stored s l n k p q =
+    let e : k + 3 ≡ k + 2 + 1 = omega arith in
+    rw e (q ∙ (rw p (sets-append (word s (k + 2)) (word s k) l n (n + 2) refl)))
 
 -- ---- a number's bytes, and a list of bytes number by number
 module _ (s : List ℕ) (bytes : Bytes s) where

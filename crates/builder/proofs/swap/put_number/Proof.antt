@@ -1,31 +1,17 @@
--- `builder::swap::put_number` meets its contract: four stores in a row.
-use native.Mathlib.Numerals.{add-one}
-use native.Mathlib.Omega.{arith}
-use lib.ListN.{length-set}
-use Prim.Native.Nat.{_+_, suc}
-use mathlib.Core.Path.{_≡_}
+-- `builder::swap::put_number` meets its contract: the high word, then the low word.
+use Rattle.builder.proofs.SwapLaws.{number-stored}
 use borrow.Author.Needs.{needs}
 use Rattle.builder.proofs.swap.put_number.Statement.{statement}
 use Rattle.builder.proofs.swap.put_number.Tie as tie
 
-slice-write-out-2 : tie.Need-slice-write-out-2
-slice-write-out-2 c = simp length-set (omega arith)
-
-slice-write-out-3 : tie.Need-slice-write-out-3
-slice-write-out-3 c = simp length-set (omega arith)
-
-slice-write-out-4 : tie.Need-slice-write-out-4
-slice-write-out-4 c = simp length-set (omega arith)
-
 returns : tie.Need-returns
-returns c = let n = c .before .before .before .before .args .n in
-    let e2 : n + 2 ≡ suc (suc n) = omega arith in
-    let e3 : n + 3 ≡ suc (suc (suc n)) = omega arith in
-    rw (add-one n, e2, e3)
+returns c = let w = c .before .before in
+    let v = w .before .before .before .before in
+    let a = v .before .before .before .before .args in
+    number-stored (a .body .now) (a .out .now) (a .n) (a .k) (v .put-word .ensures) (w .put-word2 .ensures)
 
 pub put-number-spec : {M : Type 1} → statement M
 put-number-spec =
     tie.close
-    (tie.spec (λ c. search needs) (λ c. search needs) (λ c. search needs) (λ c. search needs) (λ c. search needs)
-    (λ c. search needs) (λ c. search needs) (λ c. search needs) (λ c. search needs) slice-write-out-2
-    (λ c. search needs) slice-write-out-3 (λ c. search needs) slice-write-out-4 (λ c. search needs) returns)
+    (tie.spec (λ c. search needs) (λ c κs. search needs) (λ c. search needs) (λ c κs. search needs)
+    (λ c. search needs) returns)
