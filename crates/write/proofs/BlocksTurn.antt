@@ -15,7 +15,7 @@ use Rattle.laws.proofs.Tests.{and-true}
 use Rattle.laws.proofs.Filling.{Storing, start, room-for, wrote, ended}
 use Rattle.jobs.specs.Sizes.{jobOf, nextJob, jobsBehind}
 use Rattle.jobs.proofs.JobsLaws.{behind-none, behind-some, fault-good, fine-first}
-use Rattle.jobs.proofs.PlaceLaws.{next-whole, behind-next, job-at}
+use Rattle.jobs.proofs.PlaceLaws.{next-whole, behind-next, length-body, job-at}
 
 pub record Writing (layout : Layout) (list : List ℕ) (js : List Job) (l₀ : List ℕ) (i : ℕ) (l : List ℕ) (at n : ℕ)
     : Type 0 where
@@ -59,8 +59,10 @@ module _ (layout : Layout) (list : List ℕ) (js : List Job) (l₀ : List ℕ) (
         ++ blocksBytes layout rest
     pieces = ap (blocksBytes layout) next ∙ blocks-next layout (jobAt (drop at list)) rest
 
-    pub ahead : at < nextJob list at
-    ahead = omega (arith, next-whole list at (good .0))
+    -- the next record begins behind the body
+    pub past : (body : List ℕ) → body ≡ jobAt (drop at list) .body → nextJob list at ≡ at + (6 + length body)
+    past body b =
+        rw b (omega (arith, next-whole list at (good .0), length-body (drop at list) (good .0)))
 
     -- the record as it was read: its block, and the room for it
     module _ (kind : ℕ) (body : List ℕ) (k : kind ≡ jobAt (drop at list) .kind) (b : body ≡ jobAt (drop at list) .body)

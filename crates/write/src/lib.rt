@@ -26,14 +26,9 @@ fn write_blocks(layout: Layout, list: &[u8], from: usize, out: &mut [u8], start:
     let mut at = from;
     let mut n = start;
     while at < list.len() {
-        n = builder::write_block(
-            layout,
-            jobs::kind_at(list, at),
-            jobs::body_at(list, at),
-            out,
-            n,
-        );
-        at = jobs::next_at(list, at);
+        let body = jobs::body_at(list, at);
+        n = builder::write_block(layout, jobs::kind_at(list, at), body, out, n);
+        at += 6 + body.len();
     }
     n
 }

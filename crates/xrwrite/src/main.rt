@@ -7,6 +7,7 @@ use libc::STDIN_FILENO;
 
 // The longest list, and one byte more, so that a longer one is seen to be longer.
 const LONGEST: usize = 300000;
+
 const INPUT: usize = 300001;
 
 // The longest packet.

@@ -21,12 +21,13 @@ write-blocks-requires c κs = let x = c .before in
     let p = h .before .before .before in
     let s = p .before .before .before .before .before in
     let a = s .args in
-    let f = framed (a .layout) (a .list .now) (a .size) (s .pre .0) in
-    (omega (arith, x .next-at .ensures),
-    rw (x .next-at .ensures) (f .fine),
-    rw (x .next-at .ensures) (blocks-room (a .layout) (a .list .now) (a .size) f (a .out .now) _
-    (h .write-header .result) (p .wide16 .result) (h .before .u32-from-le-bytes .result) (padding-is p)
-    (h .write-header .ensures) (s .pre .1)))
+    let f = framed (a .layout) (a .list .now) (a .size) (s .pre .0) in (
+      omega (arith, x .next-at .ensures),
+      rw (x .next-at .ensures) (f .fine),
+      rw (x .next-at .ensures) (blocks-room (a .layout) (a .list .now) (a .size) f (a .out .now) _
+          (h .write-header .result) (p .wide16 .result) (h .before .u32-from-le-bytes .result) (padding-is p)
+          (h .write-header .ensures) (s .pre .1)),
+    )
 
 write-padding-requires : tie.Need-write-padding-requires
 write-padding-requires c κs = let b = c .before .before .before in

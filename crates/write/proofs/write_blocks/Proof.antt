@@ -1,9 +1,10 @@
 -- `write::write_blocks` meets its contract: each need cites a law of one turn.
-use Prim.Native.Nat.{_-_}
 use native.Mathlib.Omega.{arith}
+use mathlib.Core.Path.{_≡_}
+use Prim.Native.Nat.{_+_, _-_}
 use lib.ListN.{length, drop}
-use Rattle.jobs.specs.Sizes.{jobsBehind}
-use Rattle.write.proofs.BlocksTurn.{Writing, begun, ahead, block, room, turned, finished}
+use Rattle.jobs.specs.Sizes.{nextJob, jobsBehind}
+use Rattle.write.proofs.BlocksTurn.{Writing, begun, past, block, room, turned, finished}
 use borrow.Author.Needs.{needs}
 use Rattle.write.proofs.write_blocks.Statement.{statement}
 use Rattle.write.proofs.write_blocks.Tie as tie
@@ -21,9 +22,9 @@ loop-holds c = let s = c .before .before in
     begun (a .layout) (a .list .now) (a .out .now) (a .from) (a .start) (s .pre .0) (s .pre .1) (s .pre .2)
 
 write-block-requires : tie.Need-write-block-requires Inv-loop μ-loop
-write-block-requires c κs = let b = c .before in
-    let k = b .before in
-    let i = k .before in
+write-block-requires c κs = let k = c .before in
+    let b = k .before in
+    let i = b .before in
     let p = i .before in
     let a = p .before .before .before .args in (
       block (a .layout) (a .list .now) (jobsBehind (drop (a .from) (a .list .now))) (a .out .now) (a .start)
@@ -34,25 +35,40 @@ write-block-requires c κs = let b = c .before in
           (k .kind-at .result) (b .body-at .result .now) (k .kind-at .ensures) (b .body-at .ensures .0),
     )
 
-loop-less : tie.Need-loop-less Inv-loop μ-loop
-loop-less c = let w = c .before .before .before in
-    let b = w .before .before in
-    let k = b .before in
-    let i = k .before in
+-- the next record begins behind the body
+next : (c : tie.After-body-at Inv-loop μ-loop) → let p = c .before .before in
+    let a = p .before .before .before .args in
+    nextJob (a .list .now) (p .loop .at) ≡ p .loop .at + (6 + length (c .body-at .result .now))
+next c = let i = c .before in
     let p = i .before in
     let a = p .before .before .before .args in
-    let h = ahead (a .layout) (a .list .now) (jobsBehind (drop (a .from) (a .list .now))) (a .out .now) (a .start)
-    (p .loop .out) (p .loop .at) (p .loop .n) (p .loop .inv) (i .loop-test .taken) in
-    rw (c .next-at .ensures) (omega (arith, h, i .loop-test .taken))
+    past (a .layout) (a .list .now) (jobsBehind (drop (a .from) (a .list .now))) (a .out .now) (a .start)
+    (p .loop .out) (p .loop .at) (p .loop .n) (p .loop .inv) (i .loop-test .taken)
+    (c .body-at .result .now) (c .body-at .ensures .0)
+
+add-at : tie.Need-add-at Inv-loop μ-loop
+add-at c = omega (arith, next (c .before .before .before .before .before))
+
+add-at-2 : tie.Need-add-at-2 Inv-loop μ-loop
+add-at-2 c = omega (arith, next (c .before .before .before .before .before))
+
+loop-less : tie.Need-loop-less Inv-loop μ-loop
+loop-less c = let w = c .before .before in
+    let k = w .before .before in
+    let b = k .before in
+    let i = b .before in
+    let p = i .before in
+    let a = p .before .before .before .args in
+    omega (arith, next b, i .loop-test .taken)
 
 loop-again : tie.Need-loop-again Inv-loop μ-loop
-loop-again c = let w = c .before .before .before in
-    let b = w .before .before in
-    let k = b .before in
-    let i = k .before in
+loop-again c = let w = c .before .before in
+    let k = w .before .before in
+    let b = k .before in
+    let i = b .before in
     let p = i .before in
     let a = p .before .before .before .args in
-    rw (c .next-at .ensures)
+    rw (← next b)
     (turned (a .layout) (a .list .now) (jobsBehind (drop (a .from) (a .list .now))) (a .out .now) (a .start)
     (p .loop .out) (p .loop .at) (p .loop .n) (p .loop .inv) (i .loop-test .taken)
     (k .kind-at .result) (b .body-at .result .now) (k .kind-at .ensures) (b .body-at .ensures .0) _ _
@@ -70,5 +86,5 @@ returns c = let p = c .before in
 pub write-blocks-spec : {M : Type 1} → statement M
 write-blocks-spec =
     tie.close
-    (tie.spec Inv-loop μ-loop loop-holds (λ c κs. search needs) (λ c κs. search needs) write-block-requires
-    (λ c κs. search needs) loop-less loop-again same-length returns)
+    (tie.spec Inv-loop μ-loop loop-holds (λ c κs. search needs) (λ c κs. search needs) write-block-requires add-at
+    add-at-2 loop-less loop-again same-length returns)
