@@ -325,7 +325,7 @@ fn refused_lists(t: &mut Table, many: &[Vec<u8>]) {
     assert_eq!(ours::write_plain(&bad, &mut out).code, 12);
     assert!(jobs::builder(&bad).is_none());
     let p = pair(|| go(ours::write_plain(bb(&bad), bb(&mut out))), || go(jobs::builder(bb(&bad)).is_none()));
-    t.row("12: the last of 32 records is bad, against making the builder up to it", p, MADE);
+    t.row("12: the last of 32 records is bad, against making the builder", p, MADE);
     let more = list(&(0..32).map(|_| jobs::clock()).collect::<Vec<_>>());
     assert_eq!(ours::write_plain(&more, &mut out).code, 14);
     let p = pair(|| go(ours::write_plain(bb(&more), bb(&mut out))), || go(jobs::made_and_written(bb(&more), bb(&mut theirs))));
@@ -334,7 +334,10 @@ fn refused_lists(t: &mut Table, many: &[Vec<u8>]) {
     let ready = jobs::builder(&l).unwrap();
     assert_eq!(ours::write_plain(&l, &mut out[..100]).code, 11);
     assert!(jobs::written(&ready, &mut theirs[..100]).is_err());
+    let p = pair(|| go(ours::write_plain(bb(&l), bb(&mut out[..100]))), || go(jobs::made_and_written(bb(&l), bb(&mut theirs[..100]))));
+    t.row("11: 31 blocks of 100 words into 100 bytes, against making the builder", p, MADE);
+    // a ready builder has judged its records when it was made, so this is no like question
     let p = pair(|| go(ours::write_plain(bb(&l), bb(&mut out[..100]))), || go(jobs::written(bb(&ready), bb(&mut theirs[..100])).is_err()));
-    t.row("11: 31 blocks of 100 words into room for 100 bytes, against a ready XrBuilder", p, BAR);
+    t.note("11: the same, against a ready XrBuilder", p);
     assert!(out.iter().all(|&x| x == 0xee), "nothing was written by a refused call");
 }
