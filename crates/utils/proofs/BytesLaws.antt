@@ -1,7 +1,7 @@
 -- The laws of def_wire's big-endian numbers and words: the one place that unfolds `pairUp`. Assumes nothing.
 --     Bytes, be16-lt          bytes below 256 make a number below its limit
 --     be16-past, ..           past the end it is 0
---     Same, be16-same, ..     the same bytes elsewhere (in a part, behind a front) are the same number
+--     Same, be16-same, ..     the same bytes elsewhere (in a part) are the same number
 --     be16-two, ..            a number's bytes read back
 --     pairUp-*, words32-*     a list of bytes word by word, and its length in words
 use Prim.Native.Nat.{ℕ, zero, suc, _+_, _*_, _/_, _%_, _^_, _≤_, _<_}
@@ -13,7 +13,7 @@ use lib.Dec.{lit<}
 use lib.Arith.{mod-mul}
 use native.Mathlib.Omega.{arith}
 use lib.ListN.{length, getD, take, drop, length-drop, List·getD-eq-default}
-use lib.Seq.{drop-cons, getD-take, getD-drop, getD-append-add}
+use lib.Seq.{drop-cons, getD-take, getD-drop}
 use Rattle.def_wire.specs.Bytes.{byteAt, be16, be32, be64, pairUp, words16, words32, two, four, eight}
 
 -- ---- numbers
@@ -65,11 +65,6 @@ be32-same s i t j h =
     ap₂ (λ (a b : ℕ). a * 65536 + b) (be16-same s i t j (same-less s i t j 2 4 (omega arith) h))
     (be16-same s (i + 2) t (j + 2) (same-from s i t j 2 2 h))
 
-pub be64-same : (s : List ℕ) (i : ℕ) (t : List ℕ) (j : ℕ) → Same 8 s i t j → be64 s i ≡ be64 t j
-be64-same s i t j h =
-    ap₂ (λ (a b : ℕ). a * 4294967296 + b) (be32-same s i t j (same-less s i t j 4 8 (omega arith) h))
-    (be32-same s (i + 4) t (j + 4) (same-from s i t j 4 4 h))
-
 -- in what is left from k on
 pub same-drop : (m k : ℕ) (s : List ℕ) (i : ℕ) → Same m (drop k s) i s (k + i)
 same-drop m k s i q h = let e : k + i + q ≡ k + (i + q) = omega arith in rw e (getD-drop k s (i + q) 0)
@@ -77,11 +72,6 @@ same-drop m k s i q h = let e : k + i + q ≡ k + (i + q) = omega arith in rw e 
 -- in a part of n bytes from k on
 pub same-part : (m k n : ℕ) (s : List ℕ) (i : ℕ) → i + m ≤ n → Same m (take n (drop k s)) i s (k + i)
 same-part m k n s i l q h = getD-take n (drop k s) (i + q) 0 (omega arith) ∙ same-drop m k s i q h
-
--- behind a front
-pub same-behind : (m : ℕ) (a s : List ℕ) (i : ℕ) → Same m (a ++ s) (length a + i) s i
-same-behind m a s i q h =
-    let e : length a + i + q ≡ length a + (i + q) = omega arith in rw e (getD-append-add a s (i + q) 0)
 
 -- the number in a part is the number in the whole
 pub be16-part : (k n : ℕ) (s : List ℕ) (i : ℕ) → i + 2 ≤ n → be16 (take n (drop k s)) i ≡ be16 s (k + i)

@@ -52,8 +52,8 @@ framed layout list size e =
       jobs = js;
       few = header-padding (jobAt list) (p .1);
       fine = sym (fault-good 0 (jobAt list) (behind list) (p .1)) ∙ ap (jobsFault 0) (sym js) ∙ z .good;
-      sized = z .size ∙ ap (λ (l : List Job). length (layoutOf layout l)) js ∙ length-layout layout (jobAt list) (behind
-          list);
+      sized = z .size ∙ ap (λ (l : List Job). length (layoutOf layout l)) js
+          ∙ length-layout layout (jobAt list) (behind list);
     }
 
 module _ (layout : Layout) (list : List ℕ) (size : ℕ) (f : Framed layout list size) where
@@ -85,7 +85,8 @@ module _ (layout : Layout) (list : List ℕ) (size : ℕ) (f : Framed layout lis
           let e = bytes s ∙ ap (layoutOf layout) (sym (f .jobs)) in
           let q = subst (λ (vs : List ℕ). Wrote out 0 vs o k) e (and-then w (and-then v u)) in
           let l : length (layoutOf layout (jobsOf list)) ≡ size =
-          ap (λ (js : List Job). length (layoutOf layout js)) (f .jobs) ∙ length-layout layout (jobAt list) (behind list)
+          ap (λ (js : List Job). length (layoutOf layout js)) (f .jobs)
+          ∙ length-layout layout (jobAt list) (behind list)
           ∙ sym (f .sized) in
           let r : length (layoutOf layout (jobsOf list)) ≤ length out = omega (arith, l, room) in
           filled r q .1 ∙ ap (λ (n : ℕ). layoutOf layout (jobsOf list) ++ drop n out) l

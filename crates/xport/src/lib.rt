@@ -1,5 +1,6 @@
-// The reading questions and plain writing, for Rust and C: each takes numbers and slices and answers numbers. A slice is a pointer and
-// a length. A reading is a number: 0 the standard, anything else the crate's. A packet's blocks are counted from 0.
+// The reading questions and plain writing, for Rust and C: each takes numbers and slices and answers numbers. A slice
+// is a pointer and a length. A reading is a number: 0 the standard, anything else the crate's. A packet's blocks are
+// counted from 0.
 ghost use mathlib.Core.Path.{_≡_};
 ghost use Rattle.def_wire.specs.Packet.{countOf, locate};
 ghost use Rattle.def_standard.specs.Chunks.{wordBytes};

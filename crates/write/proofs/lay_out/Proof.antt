@@ -62,4 +62,6 @@ returns c = let e = c .before .before in
 pub lay-out-spec : {M : Type 1} → statement M
 lay-out-spec =
     tie.close
-    (tie.spec (λ c κs. search needs) (λ c κs. search needs) (λ c κs. search needs) (λ c κs. search needs) (λ c κs. search needs) (λ c κs. search needs) write-blocks-requires write-padding-requires (λ c. search needs) returns)
+    (tie.spec (λ c κs. search needs) (λ c κs. search needs) (λ c κs. search needs) (λ c κs. search needs)
+    (λ c κs. search needs) (λ c κs. search needs) write-blocks-requires write-padding-requires (λ c. search needs)
+    returns)
