@@ -5,7 +5,7 @@ use mathlib.Core.Bool.{true, false, cond}
 use native.Mathlib.Omega.{arith}
 use lib.ListN.{length, drop, drop-of-length-le}
 use lib.Seq.{drop-cons}
-use borrow.Author.Tests.{eq-eqb}
+use borrow.Author.Tests.{eq-eqb, ne-eqb}
 use Rattle.laws.proofs.Tests.{and-false-r}
 use Rattle.def_standard.specs.Chunks.{coversOf, valueOf, valuesIn}
 use Rattle.def_crate.specs.Sequence.{passes, sequenceOf}
@@ -35,6 +35,10 @@ module _ (start end t w : ℕ) where
   stop-place q h =
       let k : q < length (valuesIn w) = omega (arith, length-valuesIn w) in
       rw (drop-cons (valuesIn w) q 0 k, values-at w q h)
+
+  -- a place of value zero
+  stop-zero : (q : ℕ) → q < coversOf w → (valueOf w q ≡ 1 → ⊥) → stopHere q ≡ stopHere (suc q)
+  stop-zero q h v = stop-place q h ∙ (rw (ne-eqb _ _ v))
 
   -- a place whose number passes
   pub stop-passes : (q : ℕ) → q < coversOf w → passes start end (sequenceOf q start t) ≡ true
