@@ -1,23 +1,27 @@
 -- The bytes of a block of each kind, put together from the parts that are stored. Assumes nothing.
 use Prim.Native.Nat.{ℕ, _+_, _*_, _-_, _/_, _%_, _≤_, _<_}
-use mathlib.Core.Path.{_≡_, sym, ap, ap₂, _∙_}
+use mathlib.Core.Path.{_≡_, refl, sym, ap, ap₂, _∙_}
 use mathlib.Core.List.{List, _++_}
 use native.Mathlib.Omega.{arith}
-use lib.ListN.{length, drop, replicate, length-drop, length-append, length-replicate}
+use lib.ListN.{length, drop, replicate, length-append, length-replicate}
 use lib.Seq.{sets}
 use Rattle.laws.specs.Stores.{Wrote}
 use Rattle.laws.proofs.Stores.{and-then}
-use Rattle.def_wire.specs.Bytes.{byteAt, four}
-use Rattle.def_wire.specs.Block.{receiptType, clockType}
+use Rattle.def_wire.specs.declared.Rle.{Rle}
+use Rattle.def_wire.specs.Bytes.{byteAt, two, four}
+use Rattle.def_wire.specs.Block.{rleType, receiptType, clockType}
 use Rattle.def_jobs.specs.declared.Layout.{Layout}
-use Rattle.def_jobs.specs.Jobs.{le32, le64, low16}
+use Rattle.def_jobs.specs.Jobs.{le32, le64, low16, jobWords, jobTimes}
 use Rattle.def_jobs.specs.Layout.{head, withFields, wordsBytes, zerosBehind}
 use Rattle.utils.proofs.BytesLaws.{Bytes}
 use Rattle.utils.proofs.StoresLaws.{four-low}
-use Rattle.builder.specs.Swapped.{word, number, swapped16, swapped32}
+use Rattle.jobs.specs.Sizes.{jobOf}
+use Rattle.jobs.proofs.ZerosLaws.{length-words, length-times, zeros-most}
+use Rattle.jobs.proofs.LayoutLaws.{length-bytesOf}
+use Rattle.swap.specs.Swapped.{word, number, swapped16, swapped32}
+use Rattle.swap.proofs.SwapLaws.{two-word, four-number}
 use Rattle.builder.specs.Blocks.{fieldsIn, fieldsBytes, Fit, wordsBlock, timesBlock, clockBlock}
-use Rattle.builder.proofs.StoringLaws.{piece, told}
-use Rattle.builder.proofs.SwapLaws.{two-word, four-number, length-swapped16, length-swapped32}
+use Rattle.builder.proofs.FrameLaws.{piece, told}
 
 module _ (body : List ℕ) (bytes : Bytes body) where
   -- the thinning's low byte is the whole thinning
@@ -56,35 +60,43 @@ with-fields body rest kind behind e w x =
     told (ap (λ (b : ℕ). fieldsBytes kind (fieldsIn body) b ++ rest) e) (and-then w x)
 
 -- whole items: so many bytes
-pub length-wordBytes : (body : List ℕ) → Fit body 2 → length (swapped16 (drop 10 body)) ≡ length body - 10
-length-wordBytes body f = omega (arith, length-swapped16 (drop 10 body), length-drop 10 body, f .items)
-
-length-timeBytes : (body : List ℕ) → Fit body 4 → length (swapped32 (drop 10 body)) ≡ length body - 10
-length-timeBytes body f = omega (arith, length-swapped32 (drop 10 body), length-drop 10 body, f .items)
-
-module _ (layout : Layout) (kind : ℕ) (body : List ℕ) (fit : Fit body 2) where
-  length-behind : length (wordsBytes layout (low16 (drop 10 body)))
-      ≡ length body - 10 + 2 * zerosBehind layout (low16 (drop 10 body))
-  length-behind =
-      let z = 2 * zerosBehind layout (low16 (drop 10 body)) in
-      length-append (swapped16 (drop 10 body)) (replicate z 0)
-      ∙ ap₂ (λ (a b : ℕ). a + b) (length-wordBytes body fit) (length-replicate z 0)
-
-  pub length-wordsBlock : length (wordsBlock kind layout body)
-      ≡ 2 + length body + 2 * zerosBehind layout (low16 (drop 10 body))
-  length-wordsBlock = omega (arith, fit .whole, length-behind)
-
-  pub words-wrote : {l m n o : List ℕ} {at i j r : ℕ} (zeros : ℕ) → zeros ≡ zerosBehind layout (low16 (drop 10 body))
-      → Wrote l at (fieldsBytes kind (fieldsIn body) (length body - 2 + 2 * zeros)) m i
-      → Wrote m i (swapped16 (drop 10 body)) n j → Wrote n j (replicate (2 * zeros) 0) o r
-      → Wrote l at (wordsBlock kind layout body) o r
-  words-wrote zeros e w x y =
-      with-fields body (wordsBytes layout (low16 (drop 10 body))) kind (length body - 2 + 2 * zeros)
-      (omega (arith, fit .whole, length-behind)) w (and-then x (told (ap (λ (k : ℕ). replicate (2 * k) 0) e) y))
+times-bytes : (body : List ℕ) → Fit body 4 → length (swapped32 (drop 10 body)) ≡ length body - 10
+times-bytes body f =
+    let ts = jobTimes (jobOf 1 body) in
+    omega (arith, length-bytesOf four 4 (λ x. refl) ts, length-times (jobOf 1 body), f .items)
 
 pub times-wrote : (body : List ℕ) {l m n : List ℕ} {at i j : ℕ} → Fit body 4
     → Wrote l at (fieldsBytes receiptType (fieldsIn body) (length body - 2)) m i
     → Wrote m i (swapped32 (drop 10 body)) n j → Wrote l at (timesBlock body) n j
 times-wrote body f w x =
     with-fields body (swapped32 (drop 10 body)) receiptType (length body - 2)
-    (omega (arith, f .whole, length-timeBytes body f)) w x
+    (omega (arith, f .whole, times-bytes body f)) w x
+
+-- words, and so many zero words behind them
+module _ (layout : Layout) (a : Rle) (body : List ℕ) (f : Fit body 2) (zeros : ℕ)
+    (z : zeros ≡ zerosBehind layout (low16 (drop 10 body))) where
+  pub few-zeros : zeros ≤ 2
+  few-zeros = rw z (zeros-most (low16 (drop 10 body)) layout)
+
+  pub words-bytes : length (swapped16 (drop 10 body)) ≡ length body - 10
+  words-bytes =
+      let ws = jobWords (jobOf 1 body) in
+      omega (arith, length-bytesOf two 2 (λ x. refl) ws, length-words (jobOf 1 body), f .items)
+
+  behind-bytes : length (wordsBytes layout (low16 (drop 10 body))) ≡ length body - 10 + 2 * zeros
+  behind-bytes =
+      let n = 2 * zerosBehind layout (low16 (drop 10 body)) in
+      length-append (swapped16 (drop 10 body)) (replicate n 0)
+      ∙ omega (arith, words-bytes, length-replicate {A = ℕ} n 0)
+
+  pub block-bytes : length (wordsBlock a layout body) ≡ 2 + length body + 2 * zeros
+  block-bytes = omega (arith, f .whole, behind-bytes)
+
+  pub words-wrote : {l m n o : List ℕ} {at i j r : ℕ} (kind : ℕ) → kind ≡ rleType a
+      → Wrote l at (fieldsBytes kind (fieldsIn body) (length body - 2 + 2 * zeros)) m i
+      → Wrote m i (swapped16 (drop 10 body)) n j → Wrote n j (replicate (2 * zeros) 0) o r
+      → Wrote l at (wordsBlock a layout body) o r
+  words-wrote kind e w x y =
+      rw (← e)
+      (with-fields body (wordsBytes layout (low16 (drop 10 body))) kind (length body - 2 + 2 * zeros)
+      (omega (arith, f .whole, behind-bytes)) w (and-then x (told (ap (λ (k : ℕ). replicate (2 * k) 0) z) y)))
