@@ -26,7 +26,7 @@ fit j bytes e h =
     }
 
 -- the block's bytes by the kind: the room for them, and their stores
-module _ (layout : Layout) (j : Job) (k : KindOr) (e : kindOf (j .kind) ≡ k) where
+module _ (layout : Layout) (j : Job) {k : KindOr} (e : kindOf (j .kind) ≡ k) where
   block-is : bytesAs k layout j ≡ blockBytes layout j
   unfolding blockBytes
   block-is = sym (ap (λ (x : KindOr). bytesAs x layout j) e)

@@ -5,15 +5,17 @@ ghost use mathlib.Core.Path.{_≡_};
 ghost use Prim.Native.Nat.{_+_, _-_, _≤_};
 ghost use lib.ListN.{length, drop};
 ghost use lib.Seq.{sets};
+ghost use Rattle.def_wire.specs.Bytes.{two, four};
+ghost use Rattle.def_jobs.specs.Jobs.{le16, le32};
 ghost use Rattle.laws.specs.Stores.{Wrote};
 ghost use Rattle.laws.proofs.Filling.{Storing};
-ghost use Rattle.swap.specs.Swapped.{swapped16, swapped32, word, number, words4, numbers2};
+ghost use Rattle.swap.specs.Swapped.{swapped16, swapped32, words4, numbers2};
 ghost use Rattle.swap.specs.Eights.{eightAt, bytesIn, turned2, turned4};
 
 // The 16-bit number at k.
 pub fn put_word(body: &[u8], k: usize, out: &mut [u8], n: usize)
     requires { ⌜ (k + 2 ≤ length (now body)) × (n + 2 ≤ length (now out)) ⌝ }
-    ensures { λ _. ⌜ now (out .exit) ≡ sets (now (out .entry)) n (word (now (body .entry)) k) ⌝ }
+    ensures { λ _. ⌜ now (out .exit) ≡ sets (now (out .entry)) n (two (le16 (now (body .entry)) k)) ⌝ }
 {
     let lo = body[k];
     let hi = body[k + 1];
@@ -24,7 +26,7 @@ pub fn put_word(body: &[u8], k: usize, out: &mut [u8], n: usize)
 // The 32-bit number at k: its high word comes first.
 pub fn put_number(body: &[u8], k: usize, out: &mut [u8], n: usize)
     requires { ⌜ (k + 4 ≤ length (now body)) × (n + 4 ≤ length (now out)) ⌝ }
-    ensures { λ _. ⌜ now (out .exit) ≡ sets (now (out .entry)) n (number (now (body .entry)) k) ⌝ }
+    ensures { λ _. ⌜ now (out .exit) ≡ sets (now (out .entry)) n (four (le32 (now (body .entry)) k)) ⌝ }
 {
     put_word(body, k + 2, out, n);
     put_word(body, k, out, n + 2);

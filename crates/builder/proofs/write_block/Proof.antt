@@ -53,66 +53,41 @@ echoes t =
 write-words-requires : tie.Need-write-words-requires
 write-words-requires c κs =
     let t = c .before .before in
-    let s = start-spans (t .before .before) in
-    let j = job s in
-    (fit j 2 (block-words j _ (words t)) (s .pre .0), block-room (s .args .layout) j _ (words t) _ _ (s .pre .1))
+    let p = start-spans (t .before .before) .pre in
+    (fit _ 2 (block-words _ _ (words t)) (p .0), block-room _ _ (words t) _ _ (p .1))
 
 write-times-requires : tie.Need-write-times-requires
 write-times-requires c κs =
     let t = c .before in
-    let s = start-spans (t .before .before) in
-    let j = job s in
-    (fit j 4 (block-times j (times t)) (s .pre .0), block-room (s .args .layout) j _ (times t) _ _ (s .pre .1))
+    let p = start-spans (t .before .before) .pre in
+    (fit _ 4 (block-times _ (times t)) (p .0), block-room _ _ (times t) _ _ (p .1))
 
 write-clock-requires : tie.Need-write-clock-requires
 write-clock-requires c κs =
     let t = c .before in
-    let s = start (t .before .before .before) in
-    let j = job s in (
-      eqb-true _ _ (sym (block-clock j (clock t)) ∙ s .pre .0),
-      block-room (s .args .layout) j _ (clock t) _ _ (s .pre .1),
-    )
+    let p = start (t .before .before .before) .pre in
+    (eqb-true _ _ (sym (block-clock _ (clock t)) ∙ p .0), block-room _ _ (clock t) _ _ (p .1))
 
 write-echoes-requires : tie.Need-write-echoes-requires
 write-echoes-requires c κs =
     let t = c .before in
-    let s = start (t .before .before .before) in
-    block-room (s .args .layout) (job s) _ (echoes t) _ _ (s .pre .1)
+    block-room _ _ (echoes t) _ _ (start (t .before .before .before) .pre .1)
 
 -- the block is written
 returns : tie.Need-returns
-returns c =
-    let w = c .before .before in
-    let t = w .before .before .before in
-    let s = start-spans (t .before .before) in
-    block-wrote (s .args .layout) (job s) _ (words t) (w .write-words .ensures)
+returns c = let w = c .before .before in block-wrote _ _ (words (w .before .before .before)) (w .write-words .ensures)
 
 returns-2 : tie.Need-returns-2
-returns-2 c =
-    let w = c .before .before in
-    let t = w .before .before in
-    let s = start-spans (t .before .before) in
-    block-wrote (s .args .layout) (job s) _ (times t) (w .write-times .ensures)
+returns-2 c = let w = c .before .before in block-wrote _ _ (times (w .before .before)) (w .write-times .ensures)
 
 returns-3 : tie.Need-returns-3
-returns-3 c =
-    let w = c .before .before in
-    let t = w .before .before in
-    let s = start (t .before .before .before) in
-    block-wrote (s .args .layout) (job s) _ (clock t) (w .write-clock .ensures)
+returns-3 c = let w = c .before .before in block-wrote _ _ (clock (w .before .before)) (w .write-clock .ensures)
 
 returns-4 : tie.Need-returns-4
-returns-4 c =
-    let w = c .before .before in
-    let t = w .before .before in
-    let s = start (t .before .before .before) in
-    block-wrote (s .args .layout) (job s) _ (echoes t) (w .write-echoes .ensures)
+returns-4 c = let w = c .before .before in block-wrote _ _ (echoes (w .before .before)) (w .write-echoes .ensures)
 
 returns-5 : tie.Need-returns-5
-returns-5 c =
-    let f = c .before .before in
-    let s = f .before .before .before in
-    block-wrote (s .args .layout) (job s) _ (sym (f .kind-of .ensures) ∙ c .enum-told4 .given .1) none
+returns-5 c = block-wrote _ _ (sym (c .before .before .kind-of .ensures) ∙ c .enum-told4 .given .1) none
 
 pub write-block-spec : {M : Type 1} → statement M
 write-block-spec =

@@ -1,9 +1,11 @@
 -- `builder::write_words` meets its contract: fields, words, and zero words.
 use Rattle.laws.proofs.Stores.{same}
-use Rattle.builder.proofs.BlockLaws.{few-zeros, words-bytes, block-bytes, words-wrote}
-use Prim.Native.Nat.{_≤_}
+use Rattle.builder.proofs.BlockLaws.{few-zeros, words-room, words-wrote}
+use Prim.Native.Nat.{_+_, _*_, _≤_}
+use lib.ListN.{length, drop}
 use native.Mathlib.Omega.{arith}
 use borrow.Author.Needs.{needs}
+use Rattle.swap.specs.Swapped.{swapped16}
 use Rattle.builder.proofs.write_words.Statement.{statement}
 use Rattle.builder.proofs.write_words.Tie as tie
 
@@ -12,50 +14,40 @@ few z =
     let s = z .before .before .before in
     few-zeros (s .args .layout) (s .args .a) (s .args .body .now) (s .pre .0) _ (z .zeros-behind .ensures)
 
-mul-zeros : tie.Need-mul-zeros
-mul-zeros c = omega (arith, few c)
-
-add-put-fields : tie.Need-add-put-fields
-add-put-fields c = omega (arith, few (c .before .before))
+-- behind the fields there is room for the rest
+room : (f : tie.After-put-fields) → let z = f .before .before .before in
+    f .put-fields .result + length (swapped16 (drop 10 (z .before .before .before .args .body .now)))
+    + 2 * z .zeros-behind .result ≤ length (f .put-fields .last .0)
+room f =
+    let z = f .before .before .before in
+    let s = z .before .before .before in
+    words-room (s .args .layout) (s .args .a) (s .args .body .now) (s .pre .0) _ (z .zeros-behind .ensures) _
+    (f .before .rle-type .ensures) (f .put-fields .ensures) (s .pre .1)
 
 swap16-requires : tie.Need-swap16-requires
 swap16-requires c κs =
     let f = c .before .before .before in
-    let z = f .before .before .before in
-    let s = z .before .before .before in
-    let a = s .args in
-    let w = f .put-fields .ensures in
-    let n = words-bytes (a .layout) (a .a) (a .body .now) (s .pre .0) _ (z .zeros-behind .ensures) in
-    let b = block-bytes (a .layout) (a .a) (a .body .now) (s .pre .0) _ (z .zeros-behind .ensures) in
-    (s .pre .0 .whole, omega (arith, w .past, same w, s .pre .1, s .pre .0 .whole, n, b))
+    (f .before .before .before .before .before .before .pre .0 .whole, omega (arith, room f))
 
 zero-bytes-requires : tie.Need-zero-bytes-requires
 zero-bytes-requires c κs =
     let x = c .before .before .before in
-    let f = x .before .before .before .before in
-    let z = f .before .before .before in
-    let s = z .before .before .before in
-    let a = s .args in
-    let w = f .put-fields .ensures in
     let v = x .swap16 .ensures in
-    let n = words-bytes (a .layout) (a .a) (a .body .now) (s .pre .0) _ (z .zeros-behind .ensures) in
-    let b = block-bytes (a .layout) (a .a) (a .body .now) (s .pre .0) _ (z .zeros-behind .ensures) in
-    omega (arith, w .past, v .past, same w, same v, s .pre .1, s .pre .0 .whole, n, b)
+    omega (arith, v .past, same v, room (x .before .before .before .before))
 
 returns : tie.Need-returns
 returns c =
     let y = c .before .before in
     let x = y .before .before .before .before in
     let f = x .before .before .before .before in
-    let r = f .before in
-    let z = r .before .before in
+    let z = f .before .before .before in
     let s = z .before .before .before in
-    let a = s .args in
-    words-wrote (a .layout) (a .a) (a .body .now) (s .pre .0) _ (z .zeros-behind .ensures) _ (r .rle-type .ensures)
-    (f .put-fields .ensures) (x .swap16 .ensures) (y .zero-bytes .ensures)
+    words-wrote (s .args .layout) (s .args .a) (s .args .body .now) (s .pre .0) _ (z .zeros-behind .ensures) _
+    (f .before .rle-type .ensures) (f .put-fields .ensures) (x .swap16 .ensures) (y .zero-bytes .ensures)
 
 pub write-words-spec : {M : Type 1} → statement M
 write-words-spec =
     tie.close
-    (tie.spec (λ c κs. search needs) mul-zeros (λ c κs. search needs) (λ c. search needs) add-put-fields
-    (λ c κs. search needs) swap16-requires zero-bytes-requires (λ c. search needs) returns)
+    (tie.spec (λ c κs. search needs) (λ c. omega (arith, few c)) (λ c κs. search needs) (λ c. search needs)
+    (λ c. omega (arith, few (c .before .before))) (λ c κs. search needs) swap16-requires zero-bytes-requires
+    (λ c. search needs) returns)

@@ -5,10 +5,13 @@ use Rattle.swap.proofs.put_number.Statement.{statement}
 use Rattle.swap.proofs.put_number.Tie as tie
 
 returns : tie.Need-returns
-returns c = let w = c .before .before in
+returns c =
+    let w = c .before .before in
     let v = w .before .before .before .before in
-    let a = v .before .before .before .before .args in
-    number-stored (a .body .now) (a .out .now) (a .n) (a .k) (v .put-word .ensures) (w .put-word2 .ensures)
+    let b = v .before .before .before in
+    let a = b .before .args in
+    number-stored (a .body .now) (λ i. b .shared-slice-known .given i .fits) (a .out .now) (a .n) (a .k)
+    (v .put-word .ensures) (w .put-word2 .ensures)
 
 pub put-number-spec : {M : Type 1} → statement M
 put-number-spec =

@@ -18,17 +18,13 @@ abbrev μ-loop : tie.MeasureT-loop
 put-number-requires : tie.Need-put-number-requires Inv-loop μ-loop
 put-number-requires c κs =
     let l = c .before .before in
-    let s = l .before .before in
-    going-room (l .loop .inv) (numbers (s .before .args .body .now) (λ i. s .shared-slice-known .given i .fits))
-    (c .before .loop-test .taken)
+    going-room (l .loop .inv) (numbers _) (c .before .loop-test .taken)
 
 loop-again : tie.Need-loop-again Inv-loop μ-loop
 loop-again c =
     let p = c .before .before in
     let l = p .before .before .before in
-    let s = l .before .before in
-    going-next (l .loop .inv) (numbers (s .before .args .body .now) (λ i. s .shared-slice-known .given i .fits))
-    (p .before .before .loop-test .taken) (p .put-number .ensures)
+    going-next (l .loop .inv) (numbers _) (p .before .before .loop-test .taken) (p .put-number .ensures)
 
 returns : tie.Need-returns Inv-loop μ-loop
 returns c =
