@@ -127,7 +127,7 @@ module _ (s : List ℕ) (bytes : Bytes s) where
       ∙ (rw (e3, e5, e7)
       (sym (join (two-bytes k) (join (two-bytes (k + 2)) (join (two-bytes (k + 4)) (two-bytes (k + 6)))))))
 
-  four-bytes : (k : ℕ) → four (le32 s k) ≡ (byteAt s (k + 2 + 1) ∷ byteAt s (k + 2) ∷ byteAt s (k + 1) ∷ byteAt s k ∷ [])
+  four-bytes : (k : ℕ) → four (le32 s k) ≡ byteAt s (k + 2 + 1) ∷ byteAt s (k + 2) ∷ byteAt s (k + 1) ∷ byteAt s k ∷ []
   four-bytes k = four-words k ∙ join (two-bytes (k + 2)) (two-bytes k)
 
   pub turned4-numbers : {x y : Eight} (k : ℕ) → x ≡ turned4 y → y ≡ eightAt s k → bytesIn x ≡ numbers2 s k

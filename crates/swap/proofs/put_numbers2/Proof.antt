@@ -15,7 +15,8 @@ returns c =
     let a = b .before .args in
     s .store8 .ensures
     ∙ ap (sets (a .out .now) (a .n))
-    (turned4-numbers (a .body .now) (λ i. b .shared-slice-known .given i .fits) (a .k) (t .turn4 .ensures) (l .load8 .ensures))
+    (turned4-numbers (a .body .now) (λ i. b .shared-slice-known .given i .fits) (a .k)
+    (t .turn4 .ensures) (l .load8 .ensures))
 
 pub put-numbers2-spec : {M : Type 1} → statement M
 put-numbers2-spec =

@@ -15,7 +15,8 @@ returns c =
     let a = b .before .args in
     s .store8 .ensures
     ∙ ap (sets (a .out .now) (a .n))
-    (turned2-words (a .body .now) (λ i. b .shared-slice-known .given i .fits) (a .k) (t .turn2 .ensures) (l .load8 .ensures))
+    (turned2-words (a .body .now) (λ i. b .shared-slice-known .given i .fits) (a .k)
+    (t .turn2 .ensures) (l .load8 .ensures))
 
 pub put-words4-spec : {M : Type 1} → statement M
 put-words4-spec =
