@@ -1,52 +1,51 @@
 -- The bytes of a block of each kind, put together from the parts that are stored. Assumes nothing.
 use Prim.Native.Nat.{ℕ, _+_, _*_, _-_, _/_, _%_, _≤_, _<_}
-use mathlib.Core.Path.{_≡_, sym, ap, ap₂, _∙_}
+use mathlib.Core.Path.{_≡_, refl, ap, _∙_}
 use mathlib.Core.List.{List, _++_}
 use native.Mathlib.Omega.{arith}
-use lib.ListN.{length, drop, replicate, length-drop, length-append, length-replicate}
+use lib.ListN.{length, drop, replicate, length-append, length-replicate}
 use lib.Seq.{sets}
 use Rattle.laws.specs.Stores.{Wrote}
-use Rattle.laws.proofs.Stores.{and-then}
-use Rattle.def_wire.specs.Bytes.{byteAt, four}
-use Rattle.def_wire.specs.Block.{receiptType, clockType}
+use Rattle.laws.proofs.Stores.{and-then, same}
+use Rattle.def_wire.specs.declared.Rle.{Rle}
+use Rattle.def_wire.specs.Bytes.{byteAt, two, four}
+use Rattle.def_wire.specs.Block.{rleType, receiptType, clockType}
 use Rattle.def_jobs.specs.declared.Layout.{Layout}
-use Rattle.def_jobs.specs.Jobs.{le32, le64, low16}
+use Rattle.def_jobs.specs.Jobs.{le16, le32, le64, low16, jobWords, jobTimes}
 use Rattle.def_jobs.specs.Layout.{head, withFields, wordsBytes, zerosBehind}
 use Rattle.utils.proofs.BytesLaws.{Bytes}
 use Rattle.utils.proofs.StoresLaws.{four-low}
-use Rattle.builder.specs.Swapped.{word, number, swapped16, swapped32}
+use Rattle.jobs.specs.Sizes.{jobOf}
+use Rattle.jobs.proofs.ZerosLaws.{length-words, length-times, zeros-most}
+use Rattle.jobs.proofs.LayoutLaws.{length-bytesOf}
+use Rattle.swap.specs.Swapped.{swapped16, swapped32}
 use Rattle.builder.specs.Blocks.{fieldsIn, fieldsBytes, Fit, wordsBlock, timesBlock, clockBlock}
-use Rattle.builder.proofs.StoringLaws.{piece, told}
-use Rattle.builder.proofs.SwapLaws.{two-word, four-number, length-swapped16, length-swapped32}
+use Rattle.builder.proofs.FrameLaws.{piece, told}
 
-module _ (body : List ℕ) (bytes : Bytes body) where
-  -- the thinning's low byte is the whole thinning
-  thinning-low : fieldsIn body .thinning ≤ 15 → byteAt body 8 ≡ fieldsIn body .thinning
-  thinning-low h = omega arith
+-- the thinning's low byte is the whole thinning
+thinning-low : (body : List ℕ) → fieldsIn body .thinning ≤ 15 → byteAt body 8 ≡ fieldsIn body .thinning
+thinning-low body h = omega arith
 
-  pub fields-wrote : {l m n o p : List ℕ} {at i : ℕ} (kind behind : ℕ) → fieldsIn body .thinning ≤ 15
-      → Wrote l at (head kind (byteAt body 8) behind) m i → n ≡ sets m i (number body 0)
-      → o ≡ sets n (i + 4) (word body 4) → p ≡ sets o (i + 4 + 2) (word body 6)
-      → Wrote l at (fieldsBytes kind (fieldsIn body) behind) p (i + 4 + 2 + 2)
-  fields-wrote {l} {m} {n} {o} {p} {at} {i} kind behind h w x y z =
-      told
-      (ap₂ (λ (x y : List ℕ). x ++ y) (ap (λ (t : ℕ). head kind t behind) (thinning-low h))
-      (ap₂ (λ (x y : List ℕ). x ++ y) (sym (four-number body bytes 0))
-      (ap₂ (λ (x y : List ℕ). x ++ y) (sym (two-word body bytes 4)) (sym (two-word body bytes 6)))))
-      (and-then w (and-then (piece m n (number body 0) i x) (and-then (piece n o (word body 4) (i + 4) y)
-      (piece o p (word body 6) (i + 4 + 2) z))))
+pub fields-wrote : (body : List ℕ) {l m n o p : List ℕ} {at i : ℕ} (kind behind : ℕ) → fieldsIn body .thinning ≤ 15
+    → Wrote l at (head kind (byteAt body 8) behind) m i → n ≡ sets m i (four (le32 body 0))
+    → o ≡ sets n (i + 4) (two (le16 body 4)) → p ≡ sets o (i + 4 + 2) (two (le16 body 6))
+    → Wrote l at (fieldsBytes kind (fieldsIn body) behind) p (i + 4 + 2 + 2)
+fields-wrote body {l} {m} {n} {o} {p} {at} {i} kind behind h w x y z =
+    and-then (told (ap (λ (t : ℕ). head kind t behind) (thinning-low body h)) w)
+    (and-then (piece m n (four (le32 body 0)) i x)
+    (and-then (piece n o (two (le16 body 4)) (i + 4) y) (piece o p (two (le16 body 6)) (i + 4 + 2) z)))
 
-  pub clock-wrote : {l m n o : List ℕ} {at i : ℕ} → Wrote l at (head clockType 0 8) m i → n ≡ sets m i (number body 4)
-      → o ≡ sets n (i + 4) (number body 0) → Wrote l at (clockBlock body) o (i + 4 + 4)
-  clock-wrote {l} {m} {n} {o} {at} {i} w x y =
-      let t = le64 body 0 in
-      let small : le32 body 0 < 4294967296 = omega (arith, bytes 0, bytes 1, bytes 2, bytes 3) in
-      let high : t / 4294967296 ≡ le32 body 4 = omega arith in
-      let low : t % 4294967296 ≡ le32 body 0 = omega arith in
-      told
-      (ap₂ (λ (a b : List ℕ). head clockType 0 8 ++ (a ++ b)) (sym (ap four high ∙ four-number body bytes 4))
-      (sym (sym (four-low t) ∙ ap four low ∙ four-number body bytes 0)))
-      (and-then w (and-then (piece m n (number body 4) i x) (piece n o (number body 0) (i + 4) y)))
+pub clock-wrote : (body : List ℕ) → Bytes body → {l m n o : List ℕ} {at i : ℕ} → Wrote l at (head clockType 0 8) m i
+    → n ≡ sets m i (four (le32 body 4)) → o ≡ sets n (i + 4) (four (le32 body 0))
+    → Wrote l at (clockBlock body) o (i + 4 + 4)
+clock-wrote body bytes {l} {m} {n} {o} {at} {i} w x y =
+    let t = le64 body 0 in
+    let small : le32 body 0 < 4294967296 = omega (arith, bytes 0, bytes 1, bytes 2, bytes 3) in
+    let high : le32 body 4 ≡ t / 4294967296 = omega arith in
+    let low : le32 body 0 ≡ t % 4294967296 = omega arith in
+    and-then w
+    (and-then (told (ap four high) (piece m n (four (le32 body 4)) i x))
+    (told (ap four low ∙ four-low t) (piece n o (four (le32 body 0)) (i + 4) y)))
 
 -- a block with fields, and what stands behind them
 with-fields : (body rest : List ℕ) {l m n : List ℕ} {at i j : ℕ} (kind behind : ℕ) → behind ≡ 8 + length rest
@@ -56,35 +55,45 @@ with-fields body rest kind behind e w x =
     told (ap (λ (b : ℕ). fieldsBytes kind (fieldsIn body) b ++ rest) e) (and-then w x)
 
 -- whole items: so many bytes
-pub length-wordBytes : (body : List ℕ) → Fit body 2 → length (swapped16 (drop 10 body)) ≡ length body - 10
-length-wordBytes body f = omega (arith, length-swapped16 (drop 10 body), length-drop 10 body, f .items)
-
-length-timeBytes : (body : List ℕ) → Fit body 4 → length (swapped32 (drop 10 body)) ≡ length body - 10
-length-timeBytes body f = omega (arith, length-swapped32 (drop 10 body), length-drop 10 body, f .items)
-
-module _ (layout : Layout) (kind : ℕ) (body : List ℕ) (fit : Fit body 2) where
-  length-behind : length (wordsBytes layout (low16 (drop 10 body)))
-      ≡ length body - 10 + 2 * zerosBehind layout (low16 (drop 10 body))
-  length-behind =
-      let z = 2 * zerosBehind layout (low16 (drop 10 body)) in
-      length-append (swapped16 (drop 10 body)) (replicate z 0)
-      ∙ ap₂ (λ (a b : ℕ). a + b) (length-wordBytes body fit) (length-replicate z 0)
-
-  pub length-wordsBlock : length (wordsBlock kind layout body)
-      ≡ 2 + length body + 2 * zerosBehind layout (low16 (drop 10 body))
-  length-wordsBlock = omega (arith, fit .whole, length-behind)
-
-  pub words-wrote : {l m n o : List ℕ} {at i j r : ℕ} (zeros : ℕ) → zeros ≡ zerosBehind layout (low16 (drop 10 body))
-      → Wrote l at (fieldsBytes kind (fieldsIn body) (length body - 2 + 2 * zeros)) m i
-      → Wrote m i (swapped16 (drop 10 body)) n j → Wrote n j (replicate (2 * zeros) 0) o r
-      → Wrote l at (wordsBlock kind layout body) o r
-  words-wrote zeros e w x y =
-      with-fields body (wordsBytes layout (low16 (drop 10 body))) kind (length body - 2 + 2 * zeros)
-      (omega (arith, fit .whole, length-behind)) w (and-then x (told (ap (λ (k : ℕ). replicate (2 * k) 0) e) y))
+times-bytes : (body : List ℕ) → Fit body 4 → length (swapped32 (drop 10 body)) ≡ length body - 10
+times-bytes body f =
+    let ts = jobTimes (jobOf 1 body) in
+    omega (arith, length-bytesOf four 4 (λ x. refl) ts, length-times (jobOf 1 body), f .items)
 
 pub times-wrote : (body : List ℕ) {l m n : List ℕ} {at i j : ℕ} → Fit body 4
     → Wrote l at (fieldsBytes receiptType (fieldsIn body) (length body - 2)) m i
     → Wrote m i (swapped32 (drop 10 body)) n j → Wrote l at (timesBlock body) n j
 times-wrote body f w x =
     with-fields body (swapped32 (drop 10 body)) receiptType (length body - 2)
-    (omega (arith, f .whole, length-timeBytes body f)) w x
+    (omega (arith, f .whole, times-bytes body f)) w x
+
+-- words, and so many zero words behind them
+module _ (layout : Layout) (a : Rle) (body : List ℕ) (f : Fit body 2) (zeros : ℕ)
+    (z : zeros ≡ zerosBehind layout (low16 (drop 10 body))) where
+  pub few-zeros : zeros ≤ 2
+  few-zeros = rw z (zeros-most (low16 (drop 10 body)) layout)
+
+  words-bytes : length (swapped16 (drop 10 body)) ≡ length body - 10
+  words-bytes =
+      let ws = jobWords (jobOf 1 body) in
+      omega (arith, length-bytesOf two 2 (λ x. refl) ws, length-words (jobOf 1 body), f .items)
+
+  behind-bytes : length (wordsBytes layout (low16 (drop 10 body))) ≡ length (swapped16 (drop 10 body)) + 2 * zeros
+  behind-bytes =
+      let n = 2 * zerosBehind layout (low16 (drop 10 body)) in
+      length-append (swapped16 (drop 10 body)) (replicate n 0) ∙ omega (arith, length-replicate {A = ℕ} n 0)
+
+  module _ (kind : ℕ) (e : kind ≡ rleType a) {l m : List ℕ} {at i : ℕ}
+      (w : Wrote l at (fieldsBytes kind (fieldsIn body) (length body - 2 + 2 * zeros)) m i) where
+    -- behind the fields there is room for the rest
+    pub words-room : at + length (wordsBlock a layout body) ≤ length l
+        → i + length (swapped16 (drop 10 body)) + 2 * zeros ≤ length m
+    words-room h = omega (arith, w .past, same w, behind-bytes)
+
+    pub words-wrote : {n o : List ℕ} {j r : ℕ} → Wrote m i (swapped16 (drop 10 body)) n j
+        → Wrote n j (replicate (2 * zeros) 0) o r → Wrote l at (wordsBlock a layout body) o r
+    words-wrote x y =
+        rw (← e)
+        (with-fields body (wordsBytes layout (low16 (drop 10 body))) kind (length body - 2 + 2 * zeros)
+        (omega (arith, f .whole, words-bytes, behind-bytes)) w
+        (and-then x (told (ap (λ (k : ℕ). replicate (2 * k) 0) z) y)))

@@ -1,26 +1,35 @@
 -- A packet's first bytes, zero bytes one by one, and padding. Assumes nothing.
 use Prim.Native.Nat.{ℕ, zero, suc, _+_, _*_, _-_, _/_, _%_, _≤_, _<_}
-use mathlib.Core.Path.{_≡_, ap, ap₂, _∙_}
+use mathlib.Core.Path.{_≡_, refl, ap, ap₂, _∙_}
 use mathlib.Core.List.{List, [], _∷_, _++_}
 use native.Mathlib.Omega.{arith}
 use lib.Dec.{eqb, lit<}
-use lib.ListN.{replicate}
+use lib.ListN.{length, replicate, length-replicate}
 use lib.Seq.{sets}
 use Rattle.def_wire.specs.Bytes.{two, four}
 use Rattle.laws.specs.Stores.{Wrote}
 use Rattle.laws.proofs.Tests.{both}
 use Rattle.laws.proofs.Stores.{and-then}
+use Rattle.laws.proofs.Filling.{Storing, start}
 use Rattle.utils.proofs.StoresLaws.{two-low}
 use Rattle.def_jobs.specs.Layout.{firstByte, paddingBytes}
-use Rattle.builder.specs.Swapped.{Storing}
-use Rattle.builder.proofs.StoringLaws.{piece, told, begun}
 
-pub zeros-begun : (l : List ℕ) (at count : ℕ)
-    → Storing l at (replicate count 0) l at (replicate (at + count - at) 0)
-zeros-begun l at count = let e : at + count - at ≡ count = omega arith in rw e (begun l at (replicate count 0))
+-- a store whose equation is known, with the index past it
+pub piece : (l m vs : List ℕ) (n : ℕ) → m ≡ sets l n vs → Wrote l n vs m (n + length vs)
+piece l m vs n e = record { stored = e; past = refl }
+
+-- the same list, told otherwise
+pub told : {l m a b : List ℕ} {i j : ℕ} → a ≡ b → Wrote l i a m j → Wrote l i b m j
+told e w = rw (← e) w
+
+pub zeros-begun : (l : List ℕ) (at count : ℕ) → at + count ≤ length l
+    → Storing l at (replicate count 0) l (replicate (at + count - at) 0) at
+zeros-begun l at count h =
+    let e : at + count - at ≡ count = omega arith in
+    rw e (start (omega (arith, length-replicate {A = ℕ} count 0)))
 
 module _ (n end : ℕ) where
-  pub zeros-next : n < end → replicate {A = ℕ} (end - n) 0 ≡ (0 ∷ []) ++ replicate (end - (n + 1)) 0
+  pub zeros-next : n < end → replicate {A = ℕ} (end - n) 0 ≡ 0 ∷ replicate (end - (n + 1)) 0
   zeros-next h = let e : end - n ≡ suc (end - (n + 1)) = omega arith in rw e
 
   pub zeros-none : end ≤ n → replicate {A = ℕ} (end - n) 0 ≡ []

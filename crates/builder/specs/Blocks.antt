@@ -1,26 +1,22 @@
 -- The parts of a block of each kind, as the builders write them, over a record's body alone.
 --     fieldsIn, fieldsBytes     SSRC, begin, end and thinning of kinds 1 to 3, and a block's bytes down to them
 --     Fit                       a body has its fields and whole items of so many bytes
---     wordsBlock, timesBlock, spansBlock, clockBlock, echoesBlock     def_jobs' `bytesAs` for a body of each kind
---     itemSize                  the bytes of a word or a time
-use Prim.Native.Nat.{ℕ, _+_, _-_, _%_, _≤_}
+--     wordsBlock, timesBlock, clockBlock, echoesBlock     def_jobs' `bytesAs` for a body of each kind
+use Prim.Native.Nat.{ℕ, _-_, _%_, _≤_}
 use mathlib.Core.Path.{_≡_}
 use mathlib.Core.List.{List, _++_}
 use lib.ListN.{length, drop}
 use Rattle.def_wire.specs.declared.Fields.{Fields}
+use Rattle.def_wire.specs.declared.Rle.{Rle}
 use Rattle.def_wire.specs.Bytes.{two, four, eight}
-use Rattle.def_wire.specs.declared.Ranged.{Ranged}
-use Rattle.def_wire.specs.declared.Ranged.the-variants.{Chunks, Times}
 use Rattle.def_wire.specs.Block.{rleType, receiptType, clockType, echoType}
 use Rattle.def_jobs.specs.declared.Layout.{Layout}
-use Rattle.def_jobs.specs.Jobs.{Job, jobFields, low16, low32, le64}
+use Rattle.def_jobs.specs.Jobs.{jobFields, low16, low32, le64}
 use Rattle.def_jobs.specs.Layout.{bytesOf, head, withFields, wordsBytes}
-
-abbrev pub jobOf : ℕ → List ℕ → Job
-jobOf kind body = record { kind = kind; body = body }
+use Rattle.jobs.specs.Sizes.{jobOf}
 
 abbrev pub fieldsIn : List ℕ → Fields
-fieldsIn body = jobFields (jobOf 0 body)
+fieldsIn body = jobFields (jobOf 1 body)
 
 abbrev pub fieldsBytes : ℕ → Fields → ℕ → List ℕ
 fieldsBytes type f behind = head type (f .thinning) behind ++ (four (f .ssrc) ++ (two (f .begin) ++ two (f .end)))
@@ -30,20 +26,11 @@ pub record Fit (body : List ℕ) (bytes : ℕ) : Type 0 where
   pub thin : fieldsIn body .thinning ≤ 15
   pub items : (length body - 10) % bytes ≡ 0
 
-abbrev pub wordsBlock : ℕ → Layout → List ℕ → List ℕ
-wordsBlock type layout body = withFields type (fieldsIn body) (wordsBytes layout (low16 (drop 10 body)))
+abbrev pub wordsBlock : Rle → Layout → List ℕ → List ℕ
+wordsBlock a layout body = withFields (rleType a) (fieldsIn body) (wordsBytes layout (low16 (drop 10 body)))
 
 abbrev pub timesBlock : List ℕ → List ℕ
 timesBlock body = withFields receiptType (fieldsIn body) (bytesOf four (low32 (drop 10 body)))
-
--- kinds 1 to 3, and the size of an item
-abbrev pub spansBlock : Layout → Ranged → List ℕ → List ℕ
-spansBlock layout (Chunks a) body = wordsBlock (rleType a) layout body
-spansBlock layout Times body = timesBlock body
-
-abbrev pub itemSize : Ranged → ℕ
-itemSize (Chunks a) = 2
-itemSize Times = 4
 
 abbrev pub clockBlock : List ℕ → List ℕ
 clockBlock body = head clockType 0 8 ++ eight (le64 body 0)

@@ -1,6 +1,2 @@
--- What the builders' contracts say beside def_jobs' layout.
--- Read in this order: Eights (eight bytes at once), Swapped (little-endian numbers as big-endian bytes), Blocks (the
--- parts of a block of each kind).
-pub mod Eights
-pub mod Swapped
+-- Blocks: the parts of a block of each kind, beside def_jobs' layout.
 pub mod Blocks

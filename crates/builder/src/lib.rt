@@ -1,9 +1,6 @@
 // The bytes of one block, and of a packet's frame, into a lent buffer (RFC 3611, 2 and 4; RULES, "Job lists and
 // writing"). Port of: the `write_into_unchecked` of xr/mod.rs, rle.rs, packet_receipt_time.rs,
 // receiver_reference_time.rs and dlrr.rs; differs: a block's numbers come from a record's little-endian body.
-mod swap;
-mod zeros;
-
 ghost use mathlib.Core.Path.{_≡_};
 ghost use mathlib.Core.Bool.{true};
 ghost use mathlib.Core.List.{_∷_, _++_};
@@ -13,12 +10,14 @@ ghost use Rattle.def_wire.specs.Bytes.{two, four};
 ghost use Rattle.laws.specs.Stores.{Wrote};
 ghost use Rattle.def_jobs.specs.Jobs.{isBlockJob};
 ghost use Rattle.def_jobs.specs.Layout.{head, firstByte, paddingBytes, blockBytes};
-ghost use Rattle.builder.specs.Blocks.{jobOf, fieldsIn, fieldsBytes, Fit, itemSize, wordsBlock, timesBlock};
-ghost use Rattle.builder.specs.Blocks.{spansBlock, clockBlock, echoesBlock};
+ghost use Rattle.jobs.specs.Sizes.{jobOf};
+ghost use Rattle.builder.specs.Blocks.{fieldsIn, fieldsBytes, Fit, wordsBlock, timesBlock, clockBlock};
+ghost use Rattle.builder.specs.Blocks.{echoesBlock};
 use def_jobs::Layout;
 use def_wire::Kind;
 use def_wire::KindOr;
 use def_wire::Ranged;
+use def_wire::Rle;
 use records::DelaySinceLastReceiverReport;
 use records::PacketReceiptTimes;
 use records::ReceiverReferenceTime;
@@ -102,12 +101,12 @@ fn put_fields(out: &mut [u8], at: usize, kind: u8, body: &[u8], behind: usize) -
 
 // A block of type 1 or 2: fields, words, and the zero words behind them. Port of: rle.rs RleBuilder; differs: the
 // careful layout is the same with another count of zero words.
-fn write_words(layout: Layout, kind: u8, body: &[u8], out: &mut [u8], at: usize) -> usize
-    requires { ⌜ Fit (now body) 2 × (at + length (wordsBlock kind layout (now body)) ≤ length (now out)) ⌝ }
-    ensures { λ r. ⌜ Wrote (now (out .entry)) at (wordsBlock kind layout (now (body .entry))) (now (out .exit)) r ⌝ }
+fn write_words(layout: Layout, a: Rle, body: &[u8], out: &mut [u8], at: usize) -> usize
+    requires { ⌜ Fit (now body) 2 × (at + length (wordsBlock a layout (now body)) ≤ length (now out)) ⌝ }
+    ensures { λ r. ⌜ Wrote (now (out .entry)) at (wordsBlock a layout (now (body .entry))) (now (out .exit)) r ⌝ }
 {
-    let zeros = 2 * zeros::zeros_behind(layout, body);
-    let words = put_fields(out, at, kind, body, body.len() - 2 + zeros);
+    let zeros = 2 * jobs::zeros_behind(layout, body);
+    let words = put_fields(out, at, records::rle_type(a), body, body.len() - 2 + zeros);
     let end = swap::swap16(body, 10, out, words);
     zero_bytes(out, end, zeros)
 }
@@ -154,17 +153,6 @@ fn write_echoes(body: &[u8], out: &mut [u8], at: usize) -> usize
     swap::swap32(body, 0, out, entries)
 }
 
-// A block with a range, of type 1, 2 or 3.
-fn write_spans(layout: Layout, g: Ranged, body: &[u8], out: &mut [u8], at: usize) -> usize
-    requires { ⌜ Fit (now body) (itemSize g) × (at + length (spansBlock layout g (now body)) ≤ length (now out)) ⌝ }
-    ensures { λ r. ⌜ Wrote (now (out .entry)) at (spansBlock layout g (now (body .entry))) (now (out .exit)) r ⌝ }
-{
-    match g {
-        Ranged::Chunks(a) => write_words(layout, records::rle_type(a), body, out, at),
-        Ranged::Times => write_times(body, out, at),
-    }
-}
-
 // The block that a good record asks for, where there is room for it; gives the index past it. Port of: the blocks of
 // mod.rs XrBuilder::write_into_unchecked.
 pub fn write_block(layout: Layout, kind: u16, body: &[u8], out: &mut [u8], at: usize) -> usize
@@ -173,9 +161,12 @@ pub fn write_block(layout: Layout, kind: u16, body: &[u8], out: &mut [u8], at: u
     ensures { λ r. ⌜ Wrote (now (out .entry)) at (blockBytes layout (jobOf kind (now (body .entry))))
         (now (out .exit)) r ⌝ }
 {
-    match records::kind_of(kind as u8) {
+    match jobs::kind_of(kind) {
         KindOr::AKind(k) => match k {
-            Kind::Spans(g) => write_spans(layout, g, body, out, at),
+            Kind::Spans(g) => match g {
+                Ranged::Chunks(a) => write_words(layout, a, body, out, at),
+                Ranged::Times => write_times(body, out, at),
+            },
             Kind::Clock => write_clock(body, out, at),
             Kind::Echoes => write_echoes(body, out, at),
         },

@@ -8,15 +8,6 @@ use borrow.Author.Needs.{needs}
 use Rattle.builder.proofs.put_head.Statement.{statement}
 use Rattle.builder.proofs.put_head.Tie as tie
 
-slice-write-out-2 : tie.Need-slice-write-out-2
-slice-write-out-2 c = simp length-set (omega arith)
-
-slice-write-out-3 : tie.Need-slice-write-out-3
-slice-write-out-3 c = simp length-set (omega arith)
-
-slice-write-out-4 : tie.Need-slice-write-out-4
-slice-write-out-4 c = simp length-set (omega arith)
-
 returns : tie.Need-returns
 returns c = let at = c .args .at in
     let e2 : at + 2 ≡ suc (suc at) = omega arith in
@@ -26,6 +17,6 @@ returns c = let at = c .args .at in
 pub put-head-spec : {M : Type 1} → statement M
 put-head-spec =
     tie.close
-    (tie.spec (λ c. search needs) (λ c. search needs) slice-write-out-2 (λ c. search needs) (λ c. search needs)
-    slice-write-out-3 (λ c. search needs) (λ c. search needs) slice-write-out-4 (λ c. search needs)
-    (λ c. search needs) returns)
+    (tie.spec (λ c. search needs) (λ c. search needs) (λ c. simp length-set (omega arith)) (λ c. search needs)
+    (λ c. search needs) (λ c. simp length-set (omega arith)) (λ c. search needs) (λ c. search needs)
+    (λ c. simp length-set (omega arith)) (λ c. search needs) (λ c. search needs) returns)

@@ -1,85 +1,98 @@
--- `builder::write_block` meets its contract: the block that a record asks for.
-use Rattle.builder.proofs.JobLaws.{kind-byte, spans-fit, clock-fit, spans-bytes, clock-bytes, echoes-bytes}
-use Rattle.builder.proofs.JobLaws.{none-bytes}
-use Rattle.builder.proofs.StoringLaws.{told, room-told}
+-- `builder::write_block` meets its contract: the block that a record asks for, by its kind.
+use mathlib.Core.Path.{_≡_, sym, _∙_}
+use borrow.Author.Tests.{eqb-true}
+use borrow.Author.Needs.{needs}
 use Rattle.laws.proofs.Stores.{none}
-use mathlib.Core.Path.{_≡_, sym, ap, _∙_}
+use Rattle.def_wire.specs.declared.Ranged.the-variants.{Chunks, Times}
+use Rattle.def_wire.specs.declared.Kind.the-variants.{Spans, Clock, Echoes}
 use Rattle.def_wire.specs.declared.KindOr.the-variants.{AKind}
 use Rattle.def_wire.specs.Block.{kindOf}
-use native.Mathlib.Omega.{arith}
-use borrow.Author.Needs.{needs}
+use Rattle.def_jobs.specs.Jobs.{Job}
+use Rattle.jobs.specs.Sizes.{jobOf}
+use Rattle.jobs.proofs.JudgeLaws.{kind-is, kind-spans, block-words, block-times, block-clock}
+use Rattle.builder.proofs.JobLaws.{fit, block-room, block-wrote}
 use Rattle.builder.proofs.write_block.Statement.{statement}
 use Rattle.builder.proofs.write_block.Tie as tie
 
--- the record's kind, where it has one
-kind-is : (c : tie.After-known-told) → kindOf (c .before .before .before .before .before .before .args .kind)
-    ≡ AKind (c .before .k .given .0 .0)
-kind-is c = sym (c .before .before .before .kind-of .ensures) ∙ c .before .k .given .1
+-- the record
+abbrev job : tie.Start → Job
+job s = jobOf (s .args .kind) (s .args .body .now)
 
-cast-kind-of : tie.Need-cast-kind-of
-cast-kind-of c = let b = c .before .before in
-    omega (arith, kind-byte (b .args .kind) (b .args .body .now) (b .pre .0))
+-- the function's start, from where a kind was told
+abbrev start : tie.After-k → tie.Start
+start k = k .before .before .before .before .before
 
-write-spans-requires : tie.Need-write-spans-requires
-write-spans-requires c κs = let t = c .before .before in
-    let k = t .before .before in
-    let b = k .before .before .before .before .before .before in
-    let a = b .args in
-    let e = kind-is k ∙ ap AKind (t .k2 .given .1) in (
-      spans-fit (a .kind) (a .body .now) (t .k2 .given .0 .0) e (b .pre .0),
-      room-told (a .at) (sym (spans-bytes (a .layout) (a .kind) (a .body .now) (t .k2 .given .0 .0) e)) (b .pre .1),
-    )
+abbrev start-spans : tie.After-known-told2 → tie.Start
+start-spans t = start (t .before .before .before .before)
+
+-- the record's kind in each arm
+words : (t : tie.After-g) → kindOf (job (start-spans (t .before .before)) .kind)
+    ≡ AKind (Spans (Chunks (t .g .given .0 .0)))
+words t =
+    let g = t .before .before .before in
+    let k = g .before .before .before in
+    kind-spans (k .before .before .kind-of .ensures) (k .k .given .1) (g .k2 .given .1) (t .g .given .1)
+
+times : (t : tie.After-enum-told) → kindOf (job (start-spans (t .before .before)) .kind) ≡ AKind (Spans Times)
+times t =
+    let g = t .before .before .before in
+    let k = g .before .before .before in
+    kind-spans (k .before .before .kind-of .ensures) (k .k .given .1) (g .k2 .given .1) (t .enum-told .given .1)
+
+clock : (t : tie.After-enum-told2) → kindOf (job (start (t .before .before .before)) .kind) ≡ AKind Clock
+clock t =
+    let k = t .before .before .before in
+    kind-is (k .before .before .kind-of .ensures) (k .k .given .1) (t .enum-told2 .given .1)
+
+echoes : (t : tie.After-enum-told3) → kindOf (job (start (t .before .before .before)) .kind) ≡ AKind Echoes
+echoes t =
+    let k = t .before .before .before in
+    kind-is (k .before .before .kind-of .ensures) (k .k .given .1) (t .enum-told3 .given .1)
+
+-- a fit body, and room for its block
+write-words-requires : tie.Need-write-words-requires
+write-words-requires c κs =
+    let t = c .before .before in
+    let p = start-spans (t .before .before) .pre in
+    (fit _ 2 (block-words _ _ (words t)) (p .0), block-room _ _ (words t) _ _ (p .1))
+
+write-times-requires : tie.Need-write-times-requires
+write-times-requires c κs =
+    let t = c .before in
+    let p = start-spans (t .before .before) .pre in
+    (fit _ 4 (block-times _ (times t)) (p .0), block-room _ _ (times t) _ _ (p .1))
 
 write-clock-requires : tie.Need-write-clock-requires
-write-clock-requires c κs = let t = c .before in
-    let k = t .before .before in
-    let b = k .before .before .before .before .before .before in
-    let a = b .args in
-    let e = kind-is k ∙ ap AKind (t .enum-told .given .1) in (
-      clock-fit (a .kind) (a .body .now) e (b .pre .0),
-      room-told (a .at) (sym (clock-bytes (a .layout) (a .kind) (a .body .now) e)) (b .pre .1),
-    )
+write-clock-requires c κs =
+    let t = c .before in
+    let p = start (t .before .before .before) .pre in
+    (eqb-true _ _ (sym (block-clock _ (clock t)) ∙ p .0), block-room _ _ (clock t) _ _ (p .1))
 
 write-echoes-requires : tie.Need-write-echoes-requires
-write-echoes-requires c κs = let t = c .before in
-    let k = t .before .before in
-    let b = k .before .before .before .before .before .before in
-    let a = b .args in
-    let e = kind-is k ∙ ap AKind (t .enum-told2 .given .1) in
-    room-told (a .at) (sym (echoes-bytes (a .layout) (a .kind) (a .body .now) e)) (b .pre .1)
+write-echoes-requires c κs =
+    let t = c .before in
+    block-room _ _ (echoes t) _ _ (start (t .before .before .before) .pre .1)
 
+-- the block is written
 returns : tie.Need-returns
-returns c = let w = c .before .before in
-    let t = w .before .before .before in
-    let k = t .before .before in
-    let a = k .before .before .before .before .before .before .args in
-    let e = kind-is k ∙ ap AKind (t .k2 .given .1) in
-    told (spans-bytes (a .layout) (a .kind) (a .body .now) (t .k2 .given .0 .0) e) (w .write-spans .ensures)
+returns c = let w = c .before .before in block-wrote _ _ (words (w .before .before .before)) (w .write-words .ensures)
 
 returns-2 : tie.Need-returns-2
-returns-2 c = let w = c .before .before in
-    let t = w .before .before in
-    let k = t .before .before in
-    let a = k .before .before .before .before .before .before .args in
-    told (clock-bytes (a .layout) (a .kind) (a .body .now) (kind-is k ∙ ap AKind (t .enum-told .given .1)))
-    (w .write-clock .ensures)
+returns-2 c = let w = c .before .before in block-wrote _ _ (times (w .before .before)) (w .write-times .ensures)
 
 returns-3 : tie.Need-returns-3
-returns-3 c = let w = c .before .before in
-    let t = w .before .before in
-    let k = t .before .before in
-    let a = k .before .before .before .before .before .before .args in
-    told (echoes-bytes (a .layout) (a .kind) (a .body .now) (kind-is k ∙ ap AKind (t .enum-told2 .given .1)))
-    (w .write-echoes .ensures)
+returns-3 c = let w = c .before .before in block-wrote _ _ (clock (w .before .before)) (w .write-clock .ensures)
 
 returns-4 : tie.Need-returns-4
-returns-4 c = let p = c .before .before in
-    let a = p .before .before .before .args in
-    told (none-bytes (a .layout) (a .kind) (a .body .now) (sym (p .kind-of .ensures) ∙ c .enum-told3 .given .1)) none
+returns-4 c = let w = c .before .before in block-wrote _ _ (echoes (w .before .before)) (w .write-echoes .ensures)
+
+returns-5 : tie.Need-returns-5
+returns-5 c = block-wrote _ _ (sym (c .before .before .kind-of .ensures) ∙ c .enum-told4 .given .1) none
 
 pub write-block-spec : {M : Type 1} → statement M
 write-block-spec =
     tie.close
-    (tie.spec cast-kind-of (λ c κs. search needs) (λ c. search needs) (λ c. search needs) write-spans-requires
-    (λ c. search needs) write-clock-requires (λ c. search needs) write-echoes-requires (λ c. search needs)
-    (λ c. search needs) returns (λ c. search needs) returns-2 (λ c. search needs) returns-3 returns-4)
+    (tie.spec (λ c κs. search needs) (λ c. search needs) (λ c. search needs) (λ c. search needs) write-words-requires
+    (λ c. search needs) write-times-requires (λ c. search needs) write-clock-requires (λ c. search needs)
+    write-echoes-requires (λ c. search needs) (λ c. search needs) returns (λ c. search needs) returns-2
+    (λ c. search needs) returns-3 (λ c. search needs) returns-4 returns-5)

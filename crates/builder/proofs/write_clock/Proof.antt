@@ -1,6 +1,5 @@
 -- `builder::write_clock` meets its contract: a header, then the high and the low half of the time.
 use Rattle.builder.proofs.BlockLaws.{clock-wrote}
-use Rattle.utils.proofs.BytesLaws.{Bytes}
 use borrow.Author.Needs.{needs}
 use Rattle.builder.proofs.write_clock.Statement.{statement}
 use Rattle.builder.proofs.write_clock.Tie as tie
@@ -11,9 +10,8 @@ returns c =
     let n = m .before .before .before .before in
     let h = n .before .before .before .before in
     let s = h .before .before .before in
-    let body = s .before .args .body .now in
-    let bytes : Bytes body = λ i. s .shared-slice-known .given i .fits in
-    clock-wrote body bytes (h .put-head .ensures) (n .put-number .ensures) (m .put-number2 .ensures)
+    clock-wrote (s .before .args .body .now) (λ i. s .shared-slice-known .given i .fits) (h .put-head .ensures)
+    (n .put-number .ensures) (m .put-number2 .ensures)
 
 pub write-clock-spec : {M : Type 1} → statement M
 write-clock-spec =

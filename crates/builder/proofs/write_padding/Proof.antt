@@ -1,6 +1,5 @@
 -- `builder::write_padding` meets its contract: zeros, then the count.
-use Rattle.builder.proofs.FrameLaws.{paddingBytes-last}
-use Rattle.builder.proofs.StoringLaws.{piece, told}
+use Rattle.builder.proofs.FrameLaws.{paddingBytes-last, piece, told}
 use Rattle.laws.proofs.Stores.{none, and-then, same}
 use Prim.Native.Nat.{ℕ, _-_}
 use lib.ListN.{length-replicate}

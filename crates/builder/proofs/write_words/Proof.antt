@@ -1,70 +1,53 @@
 -- `builder::write_words` meets its contract: fields, words, and zero words.
 use Rattle.laws.proofs.Stores.{same}
-use Rattle.builder.proofs.BlockLaws.{length-wordBytes, length-wordsBlock, words-wrote}
-use Rattle.builder.proofs.ZerosLaws.{wordsIn, zerosBehind-le}
+use Rattle.builder.proofs.BlockLaws.{few-zeros, words-room, words-wrote}
+use Prim.Native.Nat.{_+_, _*_, _≤_}
+use lib.ListN.{length, drop}
 use native.Mathlib.Omega.{arith}
 use borrow.Author.Needs.{needs}
+use Rattle.swap.specs.Swapped.{swapped16}
 use Rattle.builder.proofs.write_words.Statement.{statement}
 use Rattle.builder.proofs.write_words.Tie as tie
 
-mul-zeros : tie.Need-mul-zeros
-mul-zeros c = let a = c .before .before .before .args in
-    omega (arith, c .zeros-behind .ensures, zerosBehind-le (wordsIn (a .body .now)) (a .layout))
+few : (z : tie.After-zeros-behind) → z .zeros-behind .result ≤ 2
+few z =
+    let s = z .before .before .before in
+    few-zeros (s .args .layout) (s .args .a) (s .args .body .now) (s .pre .0) _ (z .zeros-behind .ensures)
 
-add-put-fields : tie.Need-add-put-fields
-add-put-fields c = let z = c .before in
-    let a = z .before .before .before .args in
-    omega (arith, z .zeros-behind .ensures, zerosBehind-le (wordsIn (a .body .now)) (a .layout))
+-- behind the fields there is room for the rest
+room : (f : tie.After-put-fields) → let z = f .before .before .before in
+    f .put-fields .result + length (swapped16 (drop 10 (z .before .before .before .args .body .now)))
+    + 2 * z .zeros-behind .result ≤ length (f .put-fields .last .0)
+room f =
+    let z = f .before .before .before in
+    let s = z .before .before .before in
+    words-room (s .args .layout) (s .args .a) (s .args .body .now) (s .pre .0) _ (z .zeros-behind .ensures) _
+    (f .before .rle-type .ensures) (f .put-fields .ensures) (s .pre .1)
 
 swap16-requires : tie.Need-swap16-requires
-swap16-requires c κs = let f = c .before .before .before in
-    let b = f .before .before .before .before .before in
-    let a = b .args in
-    let w = f .put-fields .ensures in (
-      b .pre .0 .whole,
-      omega (
-        arith,
-        w .past,
-        same w,
-        b .pre .1,
-        b .pre .0 .whole,
-        length-wordsBlock (a .layout) (a .kind) (a .body .now) (b .pre .0),
-        length-wordBytes (a .body .now) (b .pre .0),
-      ),
-    )
+swap16-requires c κs =
+    let f = c .before .before .before in
+    (f .before .before .before .before .before .before .pre .0 .whole, omega (arith, room f))
 
 zero-bytes-requires : tie.Need-zero-bytes-requires
-zero-bytes-requires c κs = let s = c .before .before .before in
-    let f = s .before .before .before .before in
-    let b = f .before .before .before .before .before in
-    let a = b .args in
-    let w = f .put-fields .ensures in
-    let x = s .swap16 .ensures in
-    omega (
-      arith,
-      w .past,
-      x .past,
-      same w,
-      same x,
-      b .pre .1,
-      b .pre .0 .whole,
-      f .before .before .zeros-behind .ensures,
-      length-wordsBlock (a .layout) (a .kind) (a .body .now) (b .pre .0),
-      length-wordBytes (a .body .now) (b .pre .0),
-    )
+zero-bytes-requires c κs =
+    let x = c .before .before .before in
+    let v = x .swap16 .ensures in
+    omega (arith, v .past, same v, room (x .before .before .before .before))
 
 returns : tie.Need-returns
-returns c = let y = c .before .before in
-    let s = y .before .before .before .before in
-    let f = s .before .before .before .before in
-    let z = f .before .before in
-    let b = z .before .before .before in
-    let a = b .args in
-    words-wrote (a .layout) (a .kind) (a .body .now) (b .pre .0) (z .zeros-behind .result) (z .zeros-behind .ensures)
-    (f .put-fields .ensures) (s .swap16 .ensures) (y .zero-bytes .ensures)
+returns c =
+    let y = c .before .before in
+    let x = y .before .before .before .before in
+    let f = x .before .before .before .before in
+    let z = f .before .before .before in
+    let s = z .before .before .before in
+    words-wrote (s .args .layout) (s .args .a) (s .args .body .now) (s .pre .0) _ (z .zeros-behind .ensures) _
+    (f .before .rle-type .ensures) (f .put-fields .ensures) (x .swap16 .ensures) (y .zero-bytes .ensures)
 
 pub write-words-spec : {M : Type 1} → statement M
 write-words-spec =
     tie.close
-    (tie.spec (λ c κs. search needs) mul-zeros (λ c. search needs) add-put-fields (λ c κs. search needs)
-    swap16-requires zero-bytes-requires (λ c. search needs) returns)
+    (tie.spec (λ c κs. search needs) (λ c. omega (arith, few c)) (λ c κs. search needs) (λ c. search needs)
+    (λ c. omega (arith, few (c .before .before))) (λ c κs. search needs) swap16-requires zero-bytes-requires
+    (λ c. search needs) returns)
