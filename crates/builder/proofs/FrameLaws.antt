@@ -1,4 +1,4 @@
--- A packet's first bytes, zero bytes one by one, and padding. Assumes nothing.
+-- Stores known by an equation, a packet's first bytes, zero bytes one by one, and padding. Assumes nothing.
 use Prim.Native.Nat.{ℕ, zero, suc, _+_, _*_, _-_, _/_, _%_, _≤_, _<_}
 use mathlib.Core.Path.{_≡_, refl, ap, ap₂, _∙_}
 use mathlib.Core.List.{List, [], _∷_, _++_}

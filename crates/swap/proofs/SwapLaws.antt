@@ -1,4 +1,4 @@
--- The laws of little-endian numbers and of their big-endian bytes: the one place that unfolds `pairLow`.
+-- The laws of little-endian numbers and of their big-endian bytes, beside jobs' LowLaws. Assumes nothing.
 --     pairLow-*               neighbours joined, from an index on
 --     swapped16-*, ..         a list of bytes number by number, eight bytes at once, and at its end
 --     two-bytes, four-words   a number's bytes, and the words of a 32-bit number
