@@ -41,6 +41,11 @@ module _ (list : List ℕ) (at m : ℕ) (e : m ≡ min at (length list)) where
   pub next-cut : (n to : ℕ) → n ≡ le32 list at → to ≡ min (6 + n) (length list - m) → m + to ≡ nextJob list at
   next-cut n to k t = omega (arith, le32-here at list)
 
+-- a whole record lies in the list
+pub whole-within : (list : List ℕ) (at : ℕ) → isWhole (drop at list) ≡ true → at + 6 + le32 list at ≤ length list
+whole-within list at e =
+    let w = whole-is (drop at list) e in omega (arith, w .six, w .body, le32-here at list, length-drop at list)
+
 -- the record as it was read
 module _ (s : List ℕ) (k : ℕ) (b : List ℕ) (e : k ≡ le16 s 4) (f : b ≡ jobAt s .body) where
   pub job-at : jobOf k b ≡ jobAt s

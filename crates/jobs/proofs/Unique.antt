@@ -9,6 +9,8 @@ use Rattle.jobs.proofs.u64_from_le_bytes.Reads as u64-from-le-bytes
 use Rattle.jobs.proofs.is_whole.Reads as is-whole
 use Rattle.jobs.proofs.kind_at.Reads as kind-at
 use Rattle.jobs.proofs.body_at.Reads as body-at
+use Rattle.jobs.proofs.whole_kind.Reads as whole-kind
+use Rattle.jobs.proofs.whole_body.Reads as whole-body
 use Rattle.jobs.proofs.next_at.Reads as next-at
 use Rattle.jobs.proofs.is_header.Reads as is-header
 use Rattle.jobs.proofs.kind_of.Reads as kind-of
@@ -37,6 +39,12 @@ body-at-unique κs a r₁ r₂ s₁ s₂ p q = p .0 ∙ sym (q .0)
 
 pub body-at-unique-ptr : (κs : Lfts 1) → Fixes (body-at.Post κs) (λ r s. r .ptr)
 body-at-unique-ptr κs a r₁ r₂ s₁ s₂ p q = p .1 ∙ sym (q .1)
+
+pub whole-kind-unique : (κs : Lfts 1) → Fixes (whole-kind.Post κs) (λ r s. r)
+whole-kind-unique κs a r₁ r₂ s₁ s₂ p q = p ∙ sym q
+
+pub whole-body-unique : (κs : Lfts 1) → Fixes (whole-body.Post κs) (λ r s. r .now)
+whole-body-unique κs a r₁ r₂ s₁ s₂ p q = p ∙ sym q
 
 pub next-at-unique : (κs : Lfts 1) → Fixes (next-at.Post κs) (λ r s. r)
 next-at-unique κs a r₁ r₂ s₁ s₂ p q = p ∙ sym q

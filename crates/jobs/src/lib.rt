@@ -2,6 +2,7 @@
 // bytes its block has, and how many the packet has (RULES, "Job lists and writing"). Nothing is copied, and each
 // function takes all inputs: a byte past the end is 0.
 ghost use mathlib.Core.Path.{_≡_};
+ghost use mathlib.Core.Bool.{true};
 ghost use Prim.Native.Nat.{_+_, _≤_};
 ghost use lib.ListN.{length, drop};
 ghost use Rattle.def_wire.specs.Packet.{startFrom};
@@ -117,6 +118,23 @@ pub fn body_at(list: &[u8], at: usize) -> &[u8]
 {
     let from = utils::lesser(at, list.len()) + 6;
     utils::part(list, from, wide32(u32_from_le_bytes(list, at)))
+}
+
+// The kind and the body of a record that is known to be whole: the list is not tested again.
+pub fn whole_kind(list: &[u8], at: usize) -> u16
+    requires { ⌜ isWhole (drop at (now list)) ≡ true ⌝ }
+    ensures { λ r. ⌜ r ≡ jobAt (drop at (now (list .entry))) .kind ⌝ }
+{
+    load16(list, at + 4)
+}
+
+pub fn whole_body(list: &[u8], at: usize) -> &[u8]
+    requires { ⌜ isWhole (drop at (now list)) ≡ true ⌝ }
+    ensures { λ r. ⌜ now r ≡ jobAt (drop at (now (list .entry))) .body ⌝ }
+{
+    let from = at + 6;
+    let to = from + wide32(load32(list, at));
+    &list[from..to]
 }
 
 // Where the next record begins; the list's end where less than a whole record stands at the place.

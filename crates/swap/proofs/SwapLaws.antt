@@ -111,12 +111,6 @@ module _ (s : List ℕ) (bytes : Bytes s) where
       let high : le32 s k / 65536 ≡ le16 s (k + 2) = omega (arith, bytes k, bytes (k + 1)) in
       join (ap two high) (sym (two-low (le32 s k)) ∙ ap two low)
 
-  pub number-stored : (l : List ℕ) {m o : List ℕ} (n k : ℕ) → m ≡ sets l n (two (le16 s (k + 2)))
-      → o ≡ sets m (n + 2) (two (le16 s k)) → o ≡ sets l n (four (le32 s k))
-  number-stored l n k p q =
-      q ∙ (rw p (sets-append (two (le16 s (k + 2))) (two (le16 s k)) l n (n + 2) refl))
-      ∙ ap (sets l n) (sym (four-words k))
-
   -- eight bytes, turned round by twos and by fours
   pub turned2-words : {x y : Eight} (k : ℕ) → x ≡ turned2 y → y ≡ eightAt s k → bytesIn x ≡ words4 s k
   turned2-words k p q =
@@ -127,7 +121,7 @@ module _ (s : List ℕ) (bytes : Bytes s) where
       ∙ (rw (e3, e5, e7)
       (sym (join (two-bytes k) (join (two-bytes (k + 2)) (join (two-bytes (k + 4)) (two-bytes (k + 6)))))))
 
-  four-bytes : (k : ℕ) → four (le32 s k) ≡ byteAt s (k + 2 + 1) ∷ byteAt s (k + 2) ∷ byteAt s (k + 1) ∷ byteAt s k ∷ []
+  pub four-bytes : (k : ℕ) → four (le32 s k) ≡ byteAt s (k + 2 + 1) ∷ byteAt s (k + 2) ∷ byteAt s (k + 1) ∷ byteAt s k ∷ []
   four-bytes k = four-words k ∙ join (two-bytes (k + 2)) (two-bytes k)
 
   pub turned4-numbers : {x y : Eight} (k : ℕ) → x ≡ turned4 y → y ≡ eightAt s k → bytesIn x ≡ numbers2 s k

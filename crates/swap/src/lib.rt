@@ -23,13 +23,19 @@ pub fn put_word(body: &[u8], k: usize, out: &mut [u8], n: usize)
     out[n + 1] = lo;
 }
 
-// The 32-bit number at k: its high word comes first.
+// The 32-bit number at k. Its bytes are loaded before any is stored, so that they go by one load and one store.
 pub fn put_number(body: &[u8], k: usize, out: &mut [u8], n: usize)
     requires { ⌜ (k + 4 ≤ length (now body)) × (n + 4 ≤ length (now out)) ⌝ }
     ensures { λ _. ⌜ now (out .exit) ≡ sets (now (out .entry)) n (four (le32 (now (body .entry)) k)) ⌝ }
 {
-    put_word(body, k + 2, out, n);
-    put_word(body, k, out, n + 2);
+    let a = body[k];
+    let b = body[k + 1];
+    let c = body[k + 2];
+    let d = body[k + 3];
+    out[n] = d;
+    out[n + 1] = c;
+    out[n + 2] = b;
+    out[n + 3] = a;
 }
 
 // Eight bytes at once, in order.

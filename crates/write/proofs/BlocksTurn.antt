@@ -52,6 +52,9 @@ module _ (layout : Layout) (list : List ℕ) (js : List Job) (l₀ : List ℕ) (
         (ap (jobsFault (suc (w .index))) (sym (behind-some (drop at list) (omega (arith, length-drop at list))))
         ∙ w .fine))
 
+    pub whole : isWhole (drop at list) ≡ true
+    whole = good .0
+
     next : jobsBehind (drop at list) ≡ jobAt (drop at list) ∷ rest
     next = behind-next list at more (good .0)
 

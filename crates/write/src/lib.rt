@@ -26,8 +26,8 @@ fn write_blocks(layout: Layout, list: &[u8], from: usize, out: &mut [u8], start:
     let mut at = from;
     let mut n = start;
     while at < list.len() {
-        let body = jobs::body_at(list, at);
-        n = builder::write_block(layout, jobs::kind_at(list, at), body, out, n);
+        let body = jobs::whole_body(list, at);
+        n = builder::write_block(layout, jobs::whole_kind(list, at), body, out, n);
         at += 6 + body.len();
     }
     n

@@ -4,7 +4,7 @@ use mathlib.Core.Path.{_≡_}
 use Prim.Native.Nat.{_+_, _-_}
 use lib.ListN.{length, drop}
 use Rattle.jobs.specs.Sizes.{nextJob, jobsBehind}
-use Rattle.write.proofs.BlocksTurn.{Writing, begun, past, block, room, turned, finished}
+use Rattle.write.proofs.BlocksTurn.{Writing, begun, whole, past, block, room, turned, finished}
 use borrow.Author.Needs.{needs}
 use Rattle.write.proofs.write_blocks.Statement.{statement}
 use Rattle.write.proofs.write_blocks.Tie as tie
@@ -21,6 +21,15 @@ loop-holds c = let s = c .before .before in
     let a = s .args in
     begun (a .layout) (a .list .now) (a .out .now) (a .from) (a .start) (s .pre .0) (s .pre .1) (s .pre .2)
 
+whole-body-requires : tie.Need-whole-body-requires Inv-loop μ-loop
+whole-body-requires c κs = let p = c .before in
+    let a = p .before .before .before .args in
+    whole (a .layout) (a .list .now) (jobsBehind (drop (a .from) (a .list .now))) (a .out .now) (a .start)
+    (p .loop .out) (p .loop .at) (p .loop .n) (p .loop .inv) (c .loop-test .taken)
+
+whole-kind-requires : tie.Need-whole-kind-requires Inv-loop μ-loop
+whole-kind-requires c κs = whole-body-requires (c .before) κs
+
 write-block-requires : tie.Need-write-block-requires Inv-loop μ-loop
 write-block-requires c κs = let k = c .before in
     let b = k .before in
@@ -29,22 +38,22 @@ write-block-requires c κs = let k = c .before in
     let a = p .before .before .before .args in (
       block (a .layout) (a .list .now) (jobsBehind (drop (a .from) (a .list .now))) (a .out .now) (a .start)
           (p .loop .out) (p .loop .at) (p .loop .n) (p .loop .inv) (i .loop-test .taken)
-          (k .kind-at .result) (b .body-at .result .now) (k .kind-at .ensures) (b .body-at .ensures .0),
+          (k .whole-kind .result) (b .whole-body .result .now) (k .whole-kind .ensures) (b .whole-body .ensures),
       room (a .layout) (a .list .now) (jobsBehind (drop (a .from) (a .list .now))) (a .out .now) (a .start)
           (p .loop .out) (p .loop .at) (p .loop .n) (p .loop .inv) (i .loop-test .taken)
-          (k .kind-at .result) (b .body-at .result .now) (k .kind-at .ensures) (b .body-at .ensures .0),
+          (k .whole-kind .result) (b .whole-body .result .now) (k .whole-kind .ensures) (b .whole-body .ensures),
     )
 
 -- the next record begins behind the body
-next : (c : tie.After-body-at Inv-loop μ-loop) → let p = c .before .before in
+next : (c : tie.After-whole-body Inv-loop μ-loop) → let p = c .before .before in
     let a = p .before .before .before .args in
-    nextJob (a .list .now) (p .loop .at) ≡ p .loop .at + (6 + length (c .body-at .result .now))
+    nextJob (a .list .now) (p .loop .at) ≡ p .loop .at + (6 + length (c .whole-body .result .now))
 next c = let i = c .before in
     let p = i .before in
     let a = p .before .before .before .args in
     past (a .layout) (a .list .now) (jobsBehind (drop (a .from) (a .list .now))) (a .out .now) (a .start)
     (p .loop .out) (p .loop .at) (p .loop .n) (p .loop .inv) (i .loop-test .taken)
-    (c .body-at .result .now) (c .body-at .ensures .0)
+    (c .whole-body .result .now) (c .whole-body .ensures)
 
 add-at : tie.Need-add-at Inv-loop μ-loop
 add-at c = omega (arith, next (c .before .before .before .before .before))
@@ -71,7 +80,7 @@ loop-again c = let w = c .before .before in
     rw (← next b)
     (turned (a .layout) (a .list .now) (jobsBehind (drop (a .from) (a .list .now))) (a .out .now) (a .start)
     (p .loop .out) (p .loop .at) (p .loop .n) (p .loop .inv) (i .loop-test .taken)
-    (k .kind-at .result) (b .body-at .result .now) (k .kind-at .ensures) (b .body-at .ensures .0) _ _
+    (k .whole-kind .result) (b .whole-body .result .now) (k .whole-kind .ensures) (b .whole-body .ensures) _ _
     (w .write-block .ensures))
 
 same-length : tie.Need-same-length Inv-loop μ-loop
@@ -86,5 +95,5 @@ returns c = let p = c .before in
 pub write-blocks-spec : {M : Type 1} → statement M
 write-blocks-spec =
     tie.close
-    (tie.spec Inv-loop μ-loop loop-holds (λ c κs. search needs) (λ c κs. search needs) write-block-requires add-at
+    (tie.spec Inv-loop μ-loop loop-holds whole-body-requires whole-kind-requires write-block-requires add-at
     add-at-2 loop-less loop-again same-length returns)
