@@ -10,7 +10,7 @@ use mathlib.Core.Bool.{true, false, _&&_}
 use mathlib.Core.List.{List, [], _∷_}
 use native.Mathlib.Omega.{arith}
 use lib.ListN.{length, drop, length-drop}
-use lib.Dec.{leb, lit<}
+use lib.Dec.{leb}
 use borrow.Author.Tests.{le-leb, lt-leb, leb-true, leb-false, ne-eqb}
 use Rattle.laws.proofs.Tests.{either, and-true}
 use Rattle.def_refusals.specs.declared.Refusal.{Refusal}
@@ -91,17 +91,15 @@ jobs-next s w =
 
 -- ---- 12
 
--- no kind over 5
-pub kindOf-none : (t : ℕ) → 5 < t → kindOf t ≡ NoKind
+-- no kind but 1 to 5
+pub kindOf-none : (t : ℕ) → (t ≡ 1 → ⊥) → (t ≡ 2 → ⊥) → (t ≡ 3 → ⊥) → (t ≡ 4 → ⊥) → (t ≡ 5 → ⊥)
+    → kindOf t ≡ NoKind
 unfolding kindOf rangedOf rleOf
-kindOf-none t h =
-    rw (
-      ne-eqb t 1 (λ e. omega arith),
-      ne-eqb t 2 (λ e. omega arith),
-      ne-eqb t 3 (λ e. omega arith),
-      ne-eqb t 4 (λ e. omega arith),
-      ne-eqb t 5 (λ e. omega arith),
-    )
+kindOf-none t a b c d e = rw (ne-eqb t 1 a, ne-eqb t 2 b, ne-eqb t 3 c, ne-eqb t 4 d, ne-eqb t 5 e)
+
+kindOf-cut : kindOf (cutJob .kind) ≡ NoKind
+unfolding kindOf rangedOf rleOf
+kindOf-cut = refl
 
 -- the first of some records is good, or it is not
 pub fault-good : (i : ℕ) (j : Job) (js : List Job) → isGood i j ≡ true → jobsFault i (j ∷ js) ≡ jobsFault (suc i) js
@@ -120,7 +118,7 @@ fault-none i = refl
 pub cut-bad : (i : ℕ) → isGood i cutJob ≡ false
 unfolding isHeaderJob isBlockJob
 cut-bad zero = refl
-cut-bad (suc i) = rw (kindOf-none 65536 (lit< tt))
+cut-bad (suc i) = rw kindOf-cut
 
 -- so the list is bad where its first record is not whole and good
 pub fault-first : (i : ℕ) (s : List ℕ) → (isWhole s && isGood i (jobAt s)) ≡ false
