@@ -2,6 +2,7 @@
 --     length-bytesOf          numbers of so many bytes each
 --     length-block-*          a block's length by its kind
 --     block-fits              a good record's block is no longer than the record
+--     block-least             and has at least its four header bytes
 --     length-layout           a packet's length
 use Prim.Native.Nat.{ℕ, zero, suc, _+_, _*_, _-_, _/_, _≤_}
 use mathlib.Core.Path.{_≡_, refl, sym, _∙_}
@@ -93,6 +94,17 @@ body-fits NoKind layout j e = true≢false e
 pub block-fits : (layout : Layout) (j : Job) → isBlockJob j ≡ true → length (blockBytes layout j) ≤ 6 + length (j .body)
 unfolding isBlockJob blockBytes
 block-fits layout j e = body-fits (kindOf (j .kind)) layout j e
+
+body-least : (k : KindOr) (layout : Layout) (j : Job) → isBody k j ≡ true → 4 ≤ length (bytesAs k layout j)
+body-least (AKind (Spans (Chunks a))) layout j e = omega (arith, as-words layout j a)
+body-least (AKind (Spans Times)) layout j e = omega (arith, as-times layout j)
+body-least (AKind Clock) layout j e = omega arith
+body-least (AKind Echoes) layout j e = omega (arith, as-echoes layout j)
+body-least NoKind layout j e = true≢false e
+
+pub block-least : (layout : Layout) (j : Job) → isBlockJob j ≡ true → 4 ≤ length (blockBytes layout j)
+unfolding isBlockJob blockBytes
+block-least layout j e = body-least (kindOf (j .kind)) layout j e
 
 -- ---- packets
 

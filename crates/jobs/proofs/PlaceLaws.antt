@@ -2,7 +2,7 @@
 --     whole-*              whether it is whole
 --     body-*               its body, as a part of the list
 --     next-*, behind-next  the next record's place, and the records from there on
---     block-at, header-at  a whole record judged, as it was read
+--     judged-*, header-*   the record judged, as it was read
 use Prim.Native.Nat.{ℕ, _+_, _-_, _≤_, _<_, min}
 use mathlib.Core.Path.{_≡_, sym, ap, ap₂, _∙_}
 use mathlib.Core.Bool.{true, false}
@@ -11,23 +11,32 @@ use native.Mathlib.Omega.{arith}
 use lib.ListN.{length, take, drop, length-drop, length-take}
 use lib.Seq.{drop-drop}
 use lib.Dec.{leb}
-use borrow.Author.Tests.{le-leb, lt-leb}
+use borrow.Author.Tests.{le-leb, lt-leb, leb-true, leb-false}
+use Rattle.laws.proofs.Tests.{either}
 use Rattle.utils.proofs.PartLaws.{drop-cut}
 use Rattle.def_wire.specs.Packet.{startFrom}
-use Rattle.def_jobs.specs.Jobs.{le16, le32, isWhole, jobAt, isHeaderJob, isBlockJob}
-use Rattle.jobs.specs.Sizes.{jobOf, nextJob, isHeaderAt, isBlockAt, jobsBehind}
+use Rattle.def_jobs.specs.declared.Layout.{Layout}
+use Rattle.def_jobs.specs.Jobs.{le16, le32, isWhole, jobAt, isHeaderJob}
+use Rattle.jobs.specs.Sizes.{jobOf, nextJob, isHeaderAt, judgedSize, judgedFirst, jobsBehind}
 use Rattle.jobs.proofs.LowLaws.{le32-here}
 use Rattle.jobs.proofs.JobsLaws.{whole-is, behind-some, jobs-next}
+
+-- so many bytes behind the first six
+behind-six : (n left : ℕ) → 6 ≤ left → leb (6 + n) left ≡ leb n (left - 6)
+behind-six n left h =
+    either (leb (6 + n) left)
+    (λ t. let k : 6 + n ≤ left = leb-true _ _ t in t ∙ sym (le-leb n (left - 6) (omega arith)))
+    (λ t. let k : left < 6 + n = leb-false _ _ t in t ∙ sym (lt-leb n (left - 6) (omega arith)))
 
 module _ (list : List ℕ) (at left : ℕ) (e : left ≡ length list - at) where
   pub whole-short : left < 6 → false ≡ isWhole (drop at list)
   whole-short h = let k : length (drop at list) < 6 = omega (arith, length-drop at list) in rw (lt-leb _ _ k)
 
-  pub whole-body : (n : ℕ) → 6 ≤ left → n ≡ le32 list at → leb n (left - 6) ≡ isWhole (drop at list)
+  pub whole-body : (n : ℕ) → 6 ≤ left → n ≡ le32 list at → leb (6 + n) left ≡ isWhole (drop at list)
   whole-body n h k =
       let l : length (drop at list) ≡ left = omega (arith, length-drop at list) in
       let d : le32 (drop at list) 0 ≡ n = le32-here at list ∙ sym k in
-      rw (l, d, le-leb _ _ h)
+      rw (l, d, le-leb _ _ h) (behind-six n left h)
 
 -- m is the place, or the list's end where that comes first
 module _ (list : List ℕ) (at m : ℕ) (e : m ≡ min at (length list)) where
@@ -51,14 +60,14 @@ module _ (s : List ℕ) (k : ℕ) (b : List ℕ) (e : k ≡ le16 s 4) (f : b ≡
   pub job-at : jobOf k b ≡ jobAt s
   job-at = ap₂ jobOf e f
 
-  pub block-at : isWhole s ≡ true → isBlockJob (jobOf k b) ≡ isBlockAt s
-  block-at w = ap isBlockJob job-at ∙ (rw w)
+  pub judged-at : (layout : Layout) → isWhole s ≡ true → judgedSize layout (jobOf k b) ≡ judgedFirst layout s
+  judged-at layout w = ap (judgedSize layout) job-at ∙ (rw w)
 
   pub header-at : isWhole s ≡ true → isHeaderJob (jobOf k b) ≡ isHeaderAt s
   header-at w = ap isHeaderJob job-at ∙ (rw w)
 
-pub block-cut : (s : List ℕ) → isWhole s ≡ false → false ≡ isBlockAt s
-block-cut s w = rw w
+pub judged-cut : (s : List ℕ) (layout : Layout) → isWhole s ≡ false → 0 ≡ judgedFirst layout s
+judged-cut s layout w = rw w
 
 pub header-cut : (s : List ℕ) → isWhole s ≡ false → false ≡ isHeaderAt s
 header-cut s w = rw w
@@ -68,6 +77,13 @@ pub next-whole : (list : List ℕ) (at : ℕ) → isWhole (drop at list) ≡ tru
     → nextJob list at ≡ at + (6 + le32 (drop at list) 0)
 next-whole list at e =
     let w = whole-is (drop at list) e in omega (arith, w .six, w .body, length-drop at list)
+
+-- the same place, counted in the rest of the list
+pub next-rest : (list : List ℕ) (at : ℕ) → at ≤ length list → (s : List ℕ) → s ≡ drop at list → (step : ℕ)
+    → step ≡ nextJob s 0 → at + step ≡ nextJob list at
+next-rest list at h s r step k =
+    let e : step ≡ nextJob (drop at list) 0 = k ∙ ap (λ (l : List ℕ). nextJob l 0) r in
+    omega (arith, e, length-drop at list)
 
 -- from a place inside on: a whole record, and those from the next place on
 pub behind-next : (list : List ℕ) (at : ℕ) → at < length list → isWhole (drop at list) ≡ true

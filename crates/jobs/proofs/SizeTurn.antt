@@ -14,10 +14,11 @@ use Rattle.def_jobs.specs.declared.Layout.{Layout}
 use Rattle.def_jobs.specs.Jobs.{Job, isWhole, jobAt, isBlockJob, jobsFault}
 use Rattle.def_jobs.specs.Layout.{blockBytes, blocksBytes}
 use Rattle.def_jobs.specs.Writing.{sizeFault}
-use Rattle.jobs.specs.Sizes.{nextJob, isBlockAt, jobsBehind, onSized, restAnswer}
+use Rattle.jobs.specs.Sizes.{nextJob, isBlockAt, judgedFirst, jobsBehind, onSized, restAnswer}
 use Rattle.jobs.proofs.JobsLaws.{behind-none, behind-some, fault-good, fault-none, fault-first}
 use Rattle.jobs.proofs.LayoutLaws.{block-fits, length-blocks, length-blocks-none}
-use Rattle.jobs.proofs.PlaceLaws.{next-whole, behind-next, length-body}
+use Rattle.jobs.proofs.PlaceLaws.{whole-short, next-whole, next-rest, behind-next, length-body}
+use Rattle.jobs.proofs.JudgedLaws.{first-size, first-good, first-bad}
 use Rattle.jobs.proofs.SizeLaws.{rest-bad, rest-fine}
 
 pub record Sizing (layout : Layout) (list : List ℕ) (start : ℕ) (js : List Job) (at blocks bytes : ℕ) : Type 0 where
@@ -44,7 +45,7 @@ module _ (layout : Layout) (list : List ℕ) (start : ℕ) where
         block = and-true (isWhole (drop at list)) (isBlockJob (jobAt (drop at list))) good .1
 
         -- the block is no longer than the record, so no sum overflows
-        pub room : length (blockBytes layout (jobAt (drop at list))) ≤ nextJob list at - at
+        room : length (blockBytes layout (jobAt (drop at list))) ≤ nextJob list at - at
         room =
             omega (
               arith,
@@ -53,10 +54,10 @@ module _ (layout : Layout) (list : List ℕ) (start : ℕ) where
               block-fits layout (jobAt (drop at list)) block,
             )
 
-        pub ahead : at < nextJob list at
+        ahead : at < nextJob list at
         ahead = omega (arith, next-whole list at whole)
 
-        pub turned : Sizing layout list start js (nextJob list at) (blocks + 1)
+        turned : Sizing layout list start js (nextJob list at) (blocks + 1)
             (bytes + length (blockBytes layout (jobAt (drop at list))))
         turned =
             let e = behind-next list at more whole in
@@ -78,6 +79,26 @@ module _ (layout : Layout) (list : List ℕ) (start : ℕ) where
               );
             }
 
+      -- the record as the pass reads it, first in the rest of the list
+      module _ (s : List ℕ) (r : s ≡ drop at list) (size : ℕ) (e : size ≡ judgedFirst layout s) where
+        first : size ≡ judgedFirst layout (drop at list)
+        first = e ∙ ap (judgedFirst layout) r
+
+        pub stopped : size ≡ 0 → isBlockAt (drop at list) ≡ false
+        stopped h = first-bad layout (drop at list) size first h
+
+        module _ (some : size ≡ 0 → ⊥) (step : ℕ) (k : step ≡ nextJob s 0) where
+          good : isBlockAt (drop at list) ≡ true
+          good = first-good layout (drop at list) size first some
+
+          pub further : at < at + step
+          further = rw (next-rest list at (z .within) s r step k) (ahead good)
+
+          pub stepped : Sizing layout list start js (at + step) (blocks + 1) (bytes + size)
+          stepped =
+              rw (next-rest list at (z .within) s r step k, first-size layout (drop at list) size first good)
+              (turned good)
+
       -- a bad record ends the pass: 12 with its index
       pub refused : isBlockAt (drop at list) ≡ false → Refused (BadRecord (blocks + 1)) ≡ restAnswer layout start js
       refused bad =
@@ -86,6 +107,10 @@ module _ (layout : Layout) (list : List ℕ) (start : ℕ) where
           (sym (z .fault)
           ∙ ap (jobsFault (suc blocks)) (behind-some (drop at list) (omega (arith, length-drop at list)))
           ∙ fault-first (suc blocks) (drop at list) bad))
+
+    -- less than six bytes are no record
+    pub cut-short : length list - at < 6 → isBlockAt (drop at list) ≡ false
+    cut-short h = let w = whole-short list at (length list - at) refl h in rw (← w)
 
     -- no record is left: 14, or the size
     pub ended : length list ≤ at → onSized (sizeFault blocks bytes) bytes ≡ restAnswer layout start js

@@ -3,6 +3,8 @@
 --     nextJob       where the next record begins
 --     isHeaderAt    a whole and good header record stands first
 --     isBlockAt     a whole and good record that asks for a block stands first
+--     judgedSize    how many bytes a good record's block has, 0 of a bad record
+--     judgedFirst   the same of the record that stands first, 0 where it is cut
 --     jobsBehind    the records behind another one: none where the list ends there
 --     onSized       the size, where a check is fine
 --     sizeAnswer    how many bytes the packet of a list of records has, or 12, then 14
@@ -19,7 +21,7 @@ use Rattle.def_refusals.specs.declared.Checked.the-variants.{Fine, Unfit}
 use Rattle.def_refusals.specs.Answers.{thenCheck}
 use Rattle.def_jobs.specs.declared.Layout.{Layout}
 use Rattle.def_jobs.specs.Jobs.{Job, le32, isWhole, jobAt, jobsOf, isHeaderJob, isBlockJob, jobsFault}
-use Rattle.def_jobs.specs.Layout.{blocksBytes, layoutOf}
+use Rattle.def_jobs.specs.Layout.{blockBytes, blocksBytes, layoutOf}
 use Rattle.def_jobs.specs.Writing.{sizeFault}
 
 abbrev pub jobOf : ℕ → List ℕ → Job
@@ -34,6 +36,12 @@ isHeaderAt s = isWhole s && isHeaderJob (jobAt s)
 
 abbrev pub isBlockAt : List ℕ → Bool
 isBlockAt s = isWhole s && isBlockJob (jobAt s)
+
+abbrev pub judgedSize : Layout → Job → ℕ
+judgedSize layout j = cond (isBlockJob j) (length (blockBytes layout j)) 0
+
+abbrev pub judgedFirst : Layout → List ℕ → ℕ
+judgedFirst layout s = cond (isWhole s) (judgedSize layout (jobAt s)) 0
 
 unfoldable pub jobsBehind : List ℕ → List Job
 jobsBehind s = cond (leb (length s) 0) [] (jobsOf s)

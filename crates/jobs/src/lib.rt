@@ -11,7 +11,7 @@ ghost use Rattle.def_jobs.specs.Jobs.{le16, le32, le64, low16, isWhole, jobAt, 
 ghost use Rattle.def_jobs.specs.Jobs.{isBlockJob};
 ghost use Rattle.def_jobs.specs.Layout.{zerosBehind, blockBytes};
 ghost use Rattle.def_jobs.specs.Writing.{sizeFault};
-ghost use Rattle.jobs.specs.Sizes.{jobOf, nextJob, isHeaderAt, isBlockAt, jobsBehind};
+ghost use Rattle.jobs.specs.Sizes.{jobOf, nextJob, isHeaderAt, judgedSize, judgedFirst, jobsBehind};
 ghost use Rattle.jobs.specs.Sizes.{onSized, sizeAnswer, restAnswer};
 use def_jobs::Layout;
 use def_refusals::Answer;
@@ -101,7 +101,7 @@ pub fn is_whole(list: &[u8], at: usize) -> bool
     if left < 6 {
         return false;
     }
-    wide32(u32_from_le_bytes(list, at)) <= left - 6
+    6 + wide32(u32_from_le_bytes(list, at)) <= left
 }
 
 // The kind of the record at a place.
@@ -163,7 +163,7 @@ pub fn is_header(kind: u16, body: &[u8]) -> bool
     padding <= 252
 }
 
-// The kind of block that a record's kind asks for, where it asks for one.
+// The kind of block that a record's kind asks for, where it asks for one: the block's type (RFC 3611, 4).
 pub fn kind_of(kind: u16) -> KindOr
     ensures { λ r. ⌜ r ≡ kindOf kind ⌝ }
 {
@@ -186,23 +186,6 @@ fn has_fields(body: &[u8], bytes: usize) -> bool
         return false;
     }
     (body.len() - 10) % bytes == 0
-}
-
-// Whether a record asks for a block, and its body is as its kind has it.
-pub fn is_block(kind: u16, body: &[u8]) -> bool
-    ensures { λ r. ⌜ r ≡ isBlockJob (jobOf kind (now (body .entry))) ⌝ }
-{
-    match kind_of(kind) {
-        KindOr::AKind(k) => match k {
-            Kind::Spans(g) => match g {
-                Ranged::Chunks(_) => has_fields(body, 2),
-                Ranged::Times => has_fields(body, 4),
-            },
-            Kind::Clock => body.len() == 8,
-            Kind::Echoes => body.len() % 12 == 0,
-        },
-        KindOr::NoKind => false,
-    }
 }
 
 // How many zero words the layout puts behind the words of a body of kind 1 or 2.
@@ -246,6 +229,48 @@ pub fn block_size(layout: Layout, kind: u16, body: &[u8]) -> usize
     }
 }
 
+// The same of a good record, judged by the way; 0 of a bad one, as no block is empty.
+fn judged_size(layout: Layout, kind: u16, body: &[u8]) -> usize
+    ensures { λ r. ⌜ r ≡ judgedSize layout (jobOf kind (now (body .entry))) ⌝ }
+{
+    match kind_of(kind) {
+        KindOr::AKind(k) => match k {
+            Kind::Spans(g) => match g {
+                Ranged::Chunks(_) => {
+                    if has_fields(body, 2) {
+                        body.len() + 2 + zeros_behind(layout, body) * 2
+                    } else {
+                        0
+                    }
+                }
+                Ranged::Times => {
+                    if has_fields(body, 4) {
+                        body.len() + 2
+                    } else {
+                        0
+                    }
+                }
+            },
+            Kind::Clock => { if body.len() == 8 { 12 } else { 0 } }
+            Kind::Echoes => {
+                if body.len() % 12 == 0 {
+                    body.len() + 4
+                } else {
+                    0
+                }
+            }
+        },
+        KindOr::NoKind => 0,
+    }
+}
+
+// Whether a record asks for a block, and its body is as its kind has it.
+pub fn is_block(kind: u16, body: &[u8]) -> bool
+    ensures { λ r. ⌜ r ≡ isBlockJob (jobOf kind (now (body .entry))) ⌝ }
+{
+    0 < judged_size(Layout::Plain, kind, body)
+}
+
 // Whether a whole and good header record stands first.
 fn is_header_first(list: &[u8]) -> bool
     ensures { λ r. ⌜ r ≡ isHeaderAt (now (list .entry)) ⌝ }
@@ -257,21 +282,15 @@ fn is_header_first(list: &[u8]) -> bool
     }
 }
 
-// Whether a whole and good record that asks for a block stands at a place.
-fn is_block_at(list: &[u8], at: usize) -> bool
-    ensures { λ r. ⌜ r ≡ isBlockAt (drop at (now (list .entry))) ⌝ }
+// How many bytes the block of a whole and good record that stands first has; 0 where none does.
+fn judged_first(layout: Layout, list: &[u8]) -> usize
+    ensures { λ r. ⌜ r ≡ judgedFirst layout (now (list .entry)) ⌝ }
 {
-    if is_whole(list, at) {
-        is_block(kind_at(list, at), body_at(list, at))
+    if is_whole(list, 0) {
+        judged_size(layout, kind_at(list, 0), body_at(list, 0))
     } else {
-        false
+        0
     }
-}
-
-fn block_size_at(layout: Layout, list: &[u8], at: usize) -> usize
-    ensures { λ r. ⌜ r ≡ length (blockBytes layout (jobAt (drop at (now (list .entry))))) ⌝ }
-{
-    block_size(layout, kind_at(list, at), body_at(list, at))
 }
 
 // 14 of so many blocks and bytes, or the bytes.
@@ -288,6 +307,7 @@ fn fitting(blocks: usize, bytes: usize) -> Answer
 }
 
 // How many bytes the packet has, or 12, then 14, of the records from a place on, with what stands before their blocks.
+// Where the pass stops before the end, a bad or a cut record stands.
 fn size_behind(layout: Layout, list: &[u8], from: usize, start: usize) -> Answer
     requires { ⌜ (from ≤ length (now list)) × (start ≤ 260) ⌝ }
     ensures { λ r. ⌜ r ≡ restAnswer layout start (jobsBehind (drop from (now (list .entry)))) ⌝ }
@@ -295,13 +315,18 @@ fn size_behind(layout: Layout, list: &[u8], from: usize, start: usize) -> Answer
     let mut at = from;
     let mut blocks: usize = 0;
     let mut bytes = start;
-    while at < list.len() {
-        if !is_block_at(list, at) {
-            return Answer::Refused(Refusal::BadRecord(blocks + 1));
+    while 6 <= list.len() - at {
+        let rest = &list[at..];
+        let size = judged_first(layout, rest);
+        if size == 0 {
+            break;
         }
-        bytes += block_size_at(layout, list, at);
+        bytes += size;
         blocks += 1;
-        at = next_at(list, at);
+        at += next_at(rest, 0);
+    }
+    if at < list.len() {
+        return Answer::Refused(Refusal::BadRecord(blocks + 1));
     }
     fitting(blocks, bytes)
 }

@@ -20,4 +20,6 @@ returns-2 c = let u = c .before in
 
 pub is-whole-spec : {M : Type 1} → statement M
 is-whole-spec =
-    tie.close (tie.spec (λ c κs. search needs) returns (λ c κs. search needs) (λ c κs. search needs) returns-2)
+    tie.close
+    (tie.spec (λ c κs. search needs) returns (λ c κs. search needs) (λ c κs. search needs) (λ c. search needs)
+    returns-2)
