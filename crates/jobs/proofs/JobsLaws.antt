@@ -137,9 +137,3 @@ not-fine {x = x} e = let z : _≡_ {A = ℕ} 0 1 = cc in absurd (omega arith)
 pub fine-first : (i : ℕ) (s : List ℕ) → jobsFault i (jobsOf s) ≡ Fine → (isWhole s && isGood i (jobAt s)) ≡ true
 fine-first i s e =
     either (isWhole s && isGood i (jobAt s)) (λ t. t) (λ t. not-fine (sym (fault-first i s t) ∙ e))
-
-pub fine-next : (i : ℕ) (s : List ℕ) → jobsFault i (jobsOf s) ≡ Fine
-    → jobsFault (suc i) (jobsBehind (drop (6 + le32 s 0) s)) ≡ Fine
-fine-next i s e =
-    let p = and-true (isWhole s) (isGood i (jobAt s)) (fine-first i s e) in
-    sym (fault-good i (jobAt s) (jobsBehind (drop (6 + le32 s 0) s)) (p .1)) ∙ (rw (jobs-next s (p .0)) at e)

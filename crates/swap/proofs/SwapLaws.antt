@@ -9,8 +9,7 @@ use mathlib.Core.List.{List, [], _∷_, _++_}
 use native.Mathlib.Numerals.{add-one}
 use native.Mathlib.Omega.{arith}
 use lib.ListN.{length, getD, drop, length-drop}
-use lib.Seq.{sets, drop-cons}
-use Rattle.laws.proofs.Stores.{sets-append}
+use lib.Seq.{drop-cons}
 use Rattle.def_wire.specs.Bytes.{byteAt, two, four}
 use Rattle.def_jobs.specs.Jobs.{le16, le32, pairLow, low16, low32}
 use Rattle.def_jobs.specs.Layout.{bytesOf}
@@ -121,7 +120,8 @@ module _ (s : List ℕ) (bytes : Bytes s) where
       ∙ (rw (e3, e5, e7)
       (sym (join (two-bytes k) (join (two-bytes (k + 2)) (join (two-bytes (k + 4)) (two-bytes (k + 6)))))))
 
-  pub four-bytes : (k : ℕ) → four (le32 s k) ≡ byteAt s (k + 2 + 1) ∷ byteAt s (k + 2) ∷ byteAt s (k + 1) ∷ byteAt s k ∷ []
+  pub four-bytes : (k : ℕ) → four (le32 s k)
+      ≡ byteAt s (k + 2 + 1) ∷ byteAt s (k + 2) ∷ byteAt s (k + 1) ∷ byteAt s k ∷ []
   four-bytes k = four-words k ∙ join (two-bytes (k + 2)) (two-bytes k)
 
   pub turned4-numbers : {x y : Eight} (k : ℕ) → x ≡ turned4 y → y ≡ eightAt s k → bytesIn x ≡ numbers2 s k

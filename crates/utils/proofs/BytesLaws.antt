@@ -44,26 +44,10 @@ be64-past s at h = omega (arith, be32-past s at h, be32-past s (at + 4) (omega a
 abbrev pub Same : ℕ → List ℕ → ℕ → List ℕ → ℕ → Type 0
 Same n s i t j = (q : ℕ) → q < n → byteAt s (i + q) ≡ byteAt t (j + q)
 
-module _ (s : List ℕ) (i : ℕ) (t : List ℕ) (j : ℕ) where
-  -- fewer bytes, and those behind the first m
-  pub same-less : (m n : ℕ) → m ≤ n → Same n s i t j → Same m s i t j
-  same-less m n l h q k = h q (omega arith)
-
-  pub same-from : (m n : ℕ) → Same (m + n) s i t j → Same n s (i + m) t (j + m)
-  same-from m n h q k =
-      let a : i + m + q ≡ i + (m + q) = omega arith in
-      let b : j + m + q ≡ j + (m + q) = omega arith in
-      rw (a, b) (h (m + q) (omega arith))
-
 -- the same bytes are the same number
 pub be16-same : (s : List ℕ) (i : ℕ) (t : List ℕ) (j : ℕ) → Same 2 s i t j → be16 s i ≡ be16 t j
 be16-same s i t j h =
     let e : byteAt s i ≡ byteAt t j = simp add-zero at (h 0 (omega arith)) in rw (e, h 1 (omega arith))
-
-pub be32-same : (s : List ℕ) (i : ℕ) (t : List ℕ) (j : ℕ) → Same 4 s i t j → be32 s i ≡ be32 t j
-be32-same s i t j h =
-    ap₂ (λ (a b : ℕ). a * 65536 + b) (be16-same s i t j (same-less s i t j 2 4 (omega arith) h))
-    (be16-same s (i + 2) t (j + 2) (same-from s i t j 2 2 h))
 
 -- in what is left from k on
 pub same-drop : (m k : ℕ) (s : List ℕ) (i : ℕ) → Same m (drop k s) i s (k + i)

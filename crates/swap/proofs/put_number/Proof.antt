@@ -18,7 +18,8 @@ returns c =
     let e3 : a .n + 3 ≡ suc (suc (suc (a .n))) = omega arith in
     let e4 : a .k + 3 ≡ a .k + 2 + 1 = omega arith in
     rw (e4, add-one (a .n), e2, e3)
-    (ap (sets (a .out .now) (a .n)) (sym (four-bytes (a .body .now) (λ i. b .shared-slice-known .given i .fits) (a .k))))
+    (ap (sets (a .out .now) (a .n))
+    (sym (four-bytes (a .body .now) (λ i. b .shared-slice-known .given i .fits) (a .k))))
 
 pub put-number-spec : {M : Type 1} → statement M
 put-number-spec =
