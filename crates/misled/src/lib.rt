@@ -1,0 +1,1 @@
+// Whether an old reader would be misled by a record's block (RULES, "Job lists and writing").

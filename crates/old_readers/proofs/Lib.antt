@@ -1,0 +1,2 @@
+-- Same (when two records are the same).
+pub mod Same
