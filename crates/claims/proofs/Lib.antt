@@ -1,7 +1,10 @@
--- Taken (what a listing call left), Cursor (the number cursor by calls), Walk (the reader by moves), RoundTrip (a
--- written packet read back), Twelve (the examples, passed on).
+-- Taken (what a listing call left), Cursor (the number cursor by calls), Walk (the reader by moves), Answered (what a
+-- block shows, by questions), RoundTrip (a written packet read back), AsStandard (the crate's answers beside the
+-- standard's), Careful (a carefully written packet), Twelve (the examples, passed on).
 pub mod Taken
 pub mod Cursor
 pub mod Walk
+pub mod Answered
 pub mod RoundTrip
+pub mod AsStandard
 pub mod Twelve

@@ -1,5 +1,5 @@
 -- Small laws of lists. Assumes nothing.
---     Each, each-at              a property of all elements, and of one of them
+--     Each, each-at, each-drop   a property of all elements, of one of them, and of those from one on
 --     Under, under-take, ..      numbers below a bound (`Bytes` is `Under 256`), also in a part
 --     last-behind                the last byte of a list with a front before it
 use Prim.Native.Nat.{ℕ, zero, suc, _+_, _-_, _<_}
@@ -18,6 +18,11 @@ pub each-at : {A : Type 0} (P : A → Type 0) (d : A) (xs : List A) (k : ℕ) �
 each-at P d [] k e h = absurd (omega arith)
 each-at P d (x ∷ xs) zero e h = e .0
 each-at P d (x ∷ xs) (suc k) e h = each-at P d xs k (e .1) (omega arith)
+
+pub each-drop : {A : Type 0} (P : A → Type 0) (k : ℕ) (xs : List A) → Each P xs → Each P (drop k xs)
+each-drop P zero xs e = e
+each-drop P (suc k) [] e = tt
+each-drop P (suc k) (x ∷ xs) e = each-drop P k xs (e .1)
 
 -- numbers below a bound
 abbrev pub Under : ℕ → List ℕ → Type 0

@@ -55,7 +55,7 @@ then-fine : (a b : Checked) → thenCheck a b ≡ Fine → (a ≡ Fine) × (b �
 then-fine Fine b e = (refl, e)
 then-fine (Unfit x) b e = no-fault e
 
-on-fine : {A : Type 0} (c : Checked) (a s : A) → onFine c (shown a) ≡ shown s → (c ≡ Fine) × (a ≡ s)
+pub on-fine : {A : Type 0} (c : Checked) (a s : A) → onFine c (shown a) ≡ shown s → (c ≡ Fine) × (a ≡ s)
 on-fine Fine a s e = (refl, cc)
 on-fine (Unfit x) a s e = not-shown e
 

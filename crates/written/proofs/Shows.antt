@@ -33,15 +33,15 @@ use Rattle.written.proofs.HeaderLaws.{around, length-around, sender-aro
 -- ---- the blocks of good records
 
 module _ (layout : Layout) where
-  abbrev blocksOf : List Job → List (List ℕ)
+  abbrev pub blocksOf : List Job → List (List ℕ)
   blocksOf js = map (blockBytes layout) js
 
-  joined-blocks : (js : List Job) → blocksBytes layout js ≡ joined (blocksOf js)
+  pub joined-blocks : (js : List Job) → blocksBytes layout js ≡ joined (blocksOf js)
   unfolding blocksBytes
   joined-blocks [] = refl
   joined-blocks (j ∷ js) = ap (λ (l : List ℕ). blockBytes layout j ++ l) (joined-blocks js)
 
-  whole-blocks : (js : List Job) → Each Good js → Each Body js → length (joined (blocksOf js)) % 4 ≡ 0
+  pub whole-blocks : (js : List Job) → Each Good js → Each Body js → length (joined (blocksOf js)) % 4 ≡ 0
   whole-blocks [] g b = refl
   whole-blocks (j ∷ js) g b =
       let w : length (blockBytes layout j) % 4 ≡ 0 = block-laid layout j (g .0) (b .0) .whole in
@@ -54,11 +54,11 @@ module _ (layout : Layout) where
       let l = length-append (blockBytes layout j) (joined (blocksOf js)) in
       (block-laid layout j (g .0) (b .0) .announces (omega arith), announce-blocks js (g .1) (b .1) (omega arith))
 
-  block-at : (js : List Job) (k : ℕ) → getD (blocksOf js) k [] ≡ blockBytes layout (getD js k cutJob)
+  pub block-at : (js : List Job) (k : ℕ) → getD (blocksOf js) k [] ≡ blockBytes layout (getD js k cutJob)
   unfolding blockBytes kindOf rangedOf rleOf
   block-at js k = List·getD-map (blockBytes layout) js k cutJob
 
-header-padding : (h : Job) → isHeaderJob h ≡ true → askedPadding h % 4 ≡ 0
+pub header-padding : (h : Job) → isHeaderJob h ≡ true → askedPadding h % 4 ≡ 0
 unfolding isHeaderJob
 header-padding h e =
     let p = and-true (eqb (h .kind) headerKind) _ e in
@@ -76,19 +76,19 @@ module _ (layout : Layout) (h : Job) (js : List Job) (s : List ℕ) (w : Fit lay
   abbrev n : ℕ
   n = askedPadding h
 
-  packet-around : s ≡ around n (senderOf h) (joined bs)
+  pub packet-around : s ≡ around n (senderOf h) (joined bs)
   unfolding layoutOf
   packet-around = w .laid ∙ ap (around n (senderOf h)) (joined-blocks layout js)
 
-  small-around : length (around n (senderOf h) (joined bs)) ≤ maxBytes
+  pub small-around : length (around n (senderOf h) (joined bs)) ≤ maxBytes
   small-around = rw packet-around at (w .small)
 
-  announced : Each Announces bs
+  pub announced : Each Announces bs
   announced =
       let l = length-around n (senderOf h) (joined bs) in
       announce-blocks layout js (w .blocks) b (omega (arith, small-around))
 
-  stands : drop 8 s ≡ joined bs ++ paddingBytes n
+  pub stands : drop 8 s ≡ joined bs ++ paddingBytes n
   stands = ap (drop 8) packet-around
 
   header-done : headerOf Standard s ≡ Done (8 + length (joined bs))
@@ -106,10 +106,10 @@ module _ (layout : Layout) (h : Job) (js : List Job) (s : List ℕ) (w : Fit lay
     abbrev j : Job
     j = getD js k cutJob
 
-    good-at : Good j
+    pub good-at : Good j
     good-at = each-at Good cutJob js k (w .blocks) l
 
-    view-at : viewOf Standard s k ≡ shown (blockBytes layout j)
+    pub view-at : viewOf Standard s k ≡ shown (blockBytes layout j)
     view-at =
         view-block s (paddingBytes n) bs k count-done announced stands (rw (length-map js (blockBytes layout)) l)
         ∙ ap shown (block-at layout js k)

@@ -1,0 +1,209 @@
+-- A block that misleads nobody is one of which each question that the crate reading answers is answered as the standard
+-- answers it. Assumes nothing.
+--     Both            block k of a packet in both readings: the crate's view goes on behind the standard's
+--     as-standard     where it does not mislead, the crate answers as the standard
+--     no-misleading   and the other way round
+use Prim.Native.Nat.{ℕ, _≤_}
+use mathlib.Core.Path.{_≡_, refl, sym, ap, subst, _∙_}
+use mathlib.Core.Bool.{Bool, true, false, not}
+use mathlib.Core.List.{List}
+use native.Mathlib.Omega.{arith}
+use lib.ListN.{length}
+use lib.Dec.{eqb, leb}
+use borrow.Author.Tests.{eqb-true, leb-true, le-ltb}
+use Rattle.laws.proofs.Tests.{by-test, either, true≢false}
+use Rattle.def_refusals.specs.declared.Refusal.{Refusal}
+use Rattle.def_refusals.specs.declared.Checked.{Checked}
+use Rattle.def_refusals.specs.declared.Checked.the-variants.{Fine, Unfit}
+use Rattle.def_refusals.specs.Answers.{Or, shown, refused, onFine, onShown}
+use Rattle.def_wire.specs.declared.Reading.{Reading}
+use Rattle.def_wire.specs.declared.Reading.the-variants.{Standard, Crate}
+use Rattle.def_wire.specs.declared.Rle.{Rle}
+use Rattle.def_wire.specs.declared.Rle.the-variants.{Loss, Duplicate}
+use Rattle.def_wire.specs.declared.Ranged.{Ranged}
+use Rattle.def_wire.specs.declared.Ranged.the-variants.{Chunks, Times}
+use Rattle.def_wire.specs.declared.Kind.{Kind}
+use Rattle.def_wire.specs.declared.Kind.the-variants.{Spans, Clock, Echoes}
+use Rattle.def_wire.specs.declared.KindOr.the-variants.{AKind}
+use Rattle.def_wire.specs.declared.Fields.{Fields}
+use Rattle.def_wire.specs.declared.FieldsOr.{FieldsOr}
+use Rattle.def_wire.specs.declared.FieldsOr.the-variants.{Shown, NoneOf}
+use Rattle.def_wire.specs.declared.LongTime.{LongTime}
+use Rattle.def_wire.specs.declared.TimeOr.the-variants.{Time, NoTime}
+use Rattle.def_wire.specs.Packet.{viewOf}
+use Rattle.def_wire.specs.Block.{typeOf, kindType, rleOf, rangedOf, kindOf, standardRule, fitness, checkOf, isCut, rule}
+use Rattle.def_wire.specs.Block.{onCheckedFields, onCheckedTime, fieldsAt, timeAt, fieldsOf, timeOf}
+use Rattle.def_standard.specs.declared.Receipt.{Receipt}
+use Rattle.def_standard.specs.declared.Echo.{Echo}
+use Rattle.def_standard.specs.Standard.{entriesOf}
+use Rattle.def_questions.specs.Questions.{numbersIn, pairsIn, numbersShown, pairsShown, entriesShown}
+use Rattle.def_questions.specs.Packets.{fieldsAsked, numbersAsked, pairsAsked, entriesAsked, timeAsked}
+use Rattle.def_jobs.specs.Shown.{Record, reported, received, clocked, echoed, bare, recordAs, recordOf, sameRecord}
+use Rattle.def_jobs.specs.Shown.{onFields}
+use Rattle.def_jobs.specs.Writing.{differs, misleads}
+use Rattle.written.proofs.RecordsLaws.{not-shown, on-fine}
+use Rattle.old_readers.proofs.Same.{same-self, same-record}
+use Rattle.claims.specs.RoundTrip.{Answered}
+use Rattle.claims.specs.Careful.{AsStandard}
+use Rattle.claims.proofs.Answered.{shown-answered}
+
+-- ---- a block of the asked kind
+
+kind-type : (k : Kind) → kindOf (kindType k) ≡ AKind k
+unfolding kindOf rangedOf rleOf
+kind-type (Spans (Chunks Loss)) = refl
+kind-type (Spans (Chunks Duplicate)) = refl
+kind-type (Spans Times) = refl
+kind-type Clock = refl
+kind-type Echoes = refl
+
+no-fault : {P : Type 0} {x : Refusal} → Unfit x ≡ Fine → P
+no-fault {x = x} e = absurd (let z : _≡_ {A = ℕ} 0 1 = cc in omega arith)
+
+module _ (r : Reading) (v : List ℕ) where
+  type-fine : (k : Kind) → checkOf r k v ≡ Fine → typeOf v ≡ kindType k
+  unfolding checkOf
+  type-fine k = by-test (eqb (typeOf v) (kindType k)) (λ t _. eqb-true _ _ t) (λ _ e. no-fault e)
+
+  -- all that it shows
+  record-fine : (k : Kind) → checkOf r k v ≡ Fine → recordOf r v ≡ recordAs (AKind k) r v
+  unfolding recordOf
+  record-fine k c = rw (type-fine k c, kind-type k)
+
+  checked-fields : (c : Checked) (x : FieldsOr) (f : Fields) → onCheckedFields c x ≡ Shown f → (c ≡ Fine) × (x ≡ Shown f)
+  checked-fields Fine x f e = (refl, e)
+  checked-fields (Unfit y) x f e = absurd (let z : _≡_ {A = ℕ} 0 1 = cc in omega arith)
+
+  not-cut : (a : Rle) → isCut r (Chunks a) (length v) ≡ false
+  not-cut = by-reading r
+    where
+      by-reading : (r : Reading) (a : Rle) → isCut r (Chunks a) (length v) ≡ false
+      by-reading Standard a = refl
+      by-reading Crate a = refl
+
+  chunks-record : (a : Rle) → checkOf r (Spans (Chunks a)) v ≡ Fine
+      → recordOf r v ≡ shown (reported a (fieldsAt v) (numbersIn r v))
+  unfolding fieldsOf numbersShown
+  chunks-record a c = record-fine (Spans (Chunks a)) c ∙ (rw (c, not-cut a))
+
+  times-record : isCut r Times (length v) ≡ false → checkOf r (Spans Times) v ≡ Fine
+      → recordOf r v ≡ shown (received (fieldsAt v) (pairsIn r v))
+  unfolding fieldsOf pairsShown
+  times-record n c = record-fine (Spans Times) c ∙ (rw (c, n))
+
+  clock-record : checkOf r Clock v ≡ Fine → recordOf r v ≡ shown (clocked (timeAt v))
+  unfolding timeOf
+  clock-record c = record-fine Clock c ∙ (rw c)
+
+  echoes-record : checkOf r Echoes v ≡ Fine → recordOf r v ≡ shown (echoed (entriesOf v))
+  unfolding entriesShown
+  echoes-record c = record-fine Echoes c ∙ (rw c)
+
+-- ---- a question that is answered
+
+module _ (r : Reading) (v : List ℕ) where
+  numbers-fine : (a : Rle) (l : List ℕ) → numbersShown r a v ≡ shown l
+      → (checkOf r (Spans (Chunks a)) v ≡ Fine) × (numbersIn r v ≡ l)
+  unfolding numbersShown
+  numbers-fine a l = on-fine (checkOf r (Spans (Chunks a)) v) (numbersIn r v) l
+
+  pairs-fine : (l : List Receipt) → pairsShown r v ≡ shown l → (checkOf r (Spans Times) v ≡ Fine) × (pairsIn r v ≡ l)
+  unfolding pairsShown
+  pairs-fine l = on-fine (checkOf r (Spans Times) v) (pairsIn r v) l
+
+  entries-fine : (l : List Echo) → entriesShown r v ≡ shown l → (checkOf r Echoes v ≡ Fine) × (entriesOf v ≡ l)
+  unfolding entriesShown
+  entries-fine l = on-fine (checkOf r Echoes v) (entriesOf v) l
+
+  time-fine : (t : LongTime) → timeOf r v ≡ Time t → (checkOf r Clock v ≡ Fine) × (timeAt v ≡ t)
+  unfolding timeOf
+  time-fine t = by-check (checkOf r Clock v)
+    where
+      by-check : (c : Checked) → onCheckedTime c (timeAt v) ≡ Time t → (c ≡ Fine) × (timeAt v ≡ t)
+      by-check Fine e = (refl, cc)
+      by-check (Unfit x) e = absurd (let z : _≡_ {A = ℕ} 0 1 = cc in omega arith)
+
+  fields-fine : (g : Ranged) (f : Fields) → fieldsOf r g v ≡ Shown f
+      → (checkOf r (Spans g) v ≡ Fine) × (isCut r g (length v) ≡ false) × (fieldsAt v ≡ f)
+  unfolding fieldsOf
+  fields-fine g f e =
+      let p = checked-fields r v (checkOf r (Spans g) v) _ f e in
+      by-test (isCut r g (length v)) (λ _ d. absurd (let z : _≡_ {A = ℕ} 0 1 = cc in omega arith))
+      (λ n d. (p .0, n, cc)) (p .1)
+
+not-false : (b : Bool) → not b ≡ false → b ≡ true
+not-false true e = refl
+not-false false e = true≢false (sym e)
+
+-- ---- both readings of a block
+
+pub record Both (s : List ℕ) (k : ℕ) : Type 0 where
+  pub view : List ℕ
+  pub own : List ℕ
+  pub asked : Record
+  pub crate : viewOf Crate s k ≡ shown view
+  pub standard : viewOf Standard s k ≡ shown own
+  pub type : typeOf view ≡ typeOf own
+  pub longer : length own ≤ length view
+  pub shows : recordOf Standard own ≡ shown asked
+  pub some : asked ≡ bare → ⊥
+
+module _ (s : List ℕ) (k : ℕ) (b : Both s k) where
+  abbrev v : List ℕ
+  v = b .view
+
+  -- a type 3 block of its own 12 bytes is not cut
+  whole-times : checkOf Crate (Spans Times) v ≡ Fine → isCut Crate Times (length v) ≡ false
+  unfolding recordOf
+  whole-times c =
+      let t : typeOf (b .own) ≡ kindType (Spans Times) = sym (b .type) ∙ type-fine Crate v (Spans Times) c in
+      let e : recordAs (AKind (Spans Times)) Standard (b .own) ≡ shown (b .asked) = rw (t, kind-type (Spans Times)) at
+      (b .shows) in
+      le-ltb 12 (length v) (omega (arith, by-fields (fieldsOf Standard Times (b .own)) refl e, b .longer))
+    where
+      long : (f : Fields) → fieldsOf Standard Times (b .own) ≡ Shown f → 12 ≤ length (b .own)
+      unfolding checkOf fitness standardRule
+      long f p =
+          let c = fields-fine Standard (b .own) Times f p .0 in
+          by-test (eqb (typeOf (b .own)) (kindType (Spans Times)))
+          (λ _. by-rule (leb 12 (length (b .own))) refl) (λ _ e. no-fault e) c
+        where
+          by-rule : (t : Bool) → leb 12 (length (b .own)) ≡ t → rule t 12 (length (b .own)) ≡ Fine
+              → 12 ≤ length (b .own)
+          by-rule true u e = leb-true _ _ u
+          by-rule false u e = no-fault e
+
+      by-fields : (x : FieldsOr) → fieldsOf Standard Times (b .own) ≡ x
+          → onFields x (λ f. onShown (pairsShown Standard (b .own)) (λ l. shown (received f l))) ≡ shown (b .asked)
+          → 12 ≤ length (b .own)
+      by-fields (Shown f) p e = long f p
+      by-fields (NoneOf z) p e = not-shown e
+
+  module _ (m : misleads s k ≡ false) where
+    -- what the crate shows is what is asked
+    same : (c : Record) → recordOf Crate v ≡ shown c → Answered Standard s k c
+    same c e =
+        let d : not (sameRecord c (b .asked)) ≡ false = rw (b .crate, b .standard, e, b .shows) at m in
+        let i : c ≡ b .asked = same-record c (b .asked) (not-false (sameRecord c (b .asked)) d) in
+        rw i (shown-answered Standard s k (b .asked) (shown (b .own)) (b .standard) (b .some) (b .shows))
+
+    pub as-standard : AsStandard s k
+    unfolding fieldsAsked numbersAsked pairsAsked timeAsked entriesAsked
+    as-standard =
+        record {
+          fields = λ g f e. by-range g f (rw (b .crate) at e);
+          numbers = λ a l e. let p = numbers-fine Crate v a l (rw (b .crate) at e) in
+              rw (p .1) at (same _ (chunks-record Crate v a (p .0)) .1);
+          pairs = λ l e. let p = pairs-fine Crate v l (rw (b .crate) at e) in
+              rw (p .1) at (same _ (times-record Crate v (whole-times (p .0)) (p .0)) .1);
+          time = λ t e. let p = time-fine Crate v t (rw (b .crate) at e) in
+              rw (p .1) at (same _ (clock-record Crate v (p .0)));
+          entries = λ l e. let p = entries-fine Crate v l (rw (b .crate) at e) in
+              rw (p .1) at (same _ (echoes-record Crate v (p .0)));
+        }
+      where
+        by-range : (g : Ranged) (f : Fields) → fieldsOf Crate g v ≡ Shown f → fieldsAsked Standard s k g ≡ Shown f
+        by-range (Chunks a) f e = let p = fields-fine Crate v (Chunks a) f e in
+            rw (p .2) at (same _ (chunks-record Crate v a (p .0)) .0)
+        by-range Times f e = let p = fields-fine Crate v Times f e in
+            rw (p .2) at (same _ (times-record Crate v (p .1) (p .0)) .0)
