@@ -56,7 +56,7 @@ pub record Fits (f : Fields) : Type 0 where
   pub thinning : f .thinning ≤ 15
 
 module _ (type : ℕ) (f : Fields) (rest : List ℕ) where
-  fields-back : Fits f → fieldsAt (withFields type f rest) ≡ f
+  pub fields-back : Fits f → fieldsAt (withFields type f rest) ≡ f
   fields-back h =
       λ i.
       record {
