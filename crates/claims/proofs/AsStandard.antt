@@ -24,7 +24,8 @@ use Rattle.def_wire.specs.declared.Ranged.{Ranged}
 use Rattle.def_wire.specs.declared.Ranged.the-variants.{Chunks, Times}
 use Rattle.def_wire.specs.declared.Kind.{Kind}
 use Rattle.def_wire.specs.declared.Kind.the-variants.{Spans, Clock, Echoes}
-use Rattle.def_wire.specs.declared.KindOr.the-variants.{AKind}
+use Rattle.def_wire.specs.declared.KindOr.{KindOr}
+use Rattle.def_wire.specs.declared.KindOr.the-variants.{AKind, NoKind}
 use Rattle.def_wire.specs.declared.Fields.{Fields}
 use Rattle.def_wire.specs.declared.FieldsOr.{FieldsOr}
 use Rattle.def_wire.specs.declared.FieldsOr.the-variants.{Shown, NoneOf}
@@ -39,7 +40,7 @@ use Rattle.def_standard.specs.Standard.{entriesOf}
 use Rattle.def_questions.specs.Questions.{numbersIn, pairsIn, numbersShown, pairsShown, entriesShown}
 use Rattle.def_questions.specs.Packets.{fieldsAsked, numbersAsked, pairsAsked, entriesAsked, timeAsked}
 use Rattle.def_jobs.specs.Shown.{Record, reported, received, clocked, echoed, bare, recordAs, recordOf, sameRecord}
-use Rattle.def_jobs.specs.Shown.{onFields}
+use Rattle.def_jobs.specs.Shown.{onFields, numbersRow}
 use Rattle.def_jobs.specs.Writing.{differs, misleads}
 use Rattle.written.proofs.RecordsLaws.{not-shown, on-fine}
 use Rattle.old_readers.proofs.Same.{same-self, same-record}
@@ -153,31 +154,29 @@ module _ (s : List ℕ) (k : ℕ) (b : Both s k) where
   v = b .view
 
   -- a type 3 block of its own 12 bytes is not cut
+  own-times : checkOf Standard (Spans Times) (b .own) ≡ Fine → 12 ≤ length (b .own)
+  unfolding checkOf fitness standardRule
+  own-times c =
+      by-test (eqb (typeOf (b .own)) (kindType (Spans Times)))
+      (λ _. by-rule (leb 12 (length (b .own))) refl) (λ _ e. no-fault e) c
+    where
+      by-rule : (t : Bool) → leb 12 (length (b .own)) ≡ t → rule t 12 (length (b .own)) ≡ Fine → 12 ≤ length (b .own)
+      by-rule true u e = leb-true _ _ u
+      by-rule false u e = no-fault e
+
+  shown-times : (x : FieldsOr) → fieldsOf Standard Times (b .own) ≡ x
+      → onFields x (λ f. onShown (pairsShown Standard (b .own)) (λ l. shown (received f l))) ≡ shown (b .asked)
+      → 12 ≤ length (b .own)
+  shown-times (Shown f) p e = own-times (fields-fine Standard (b .own) Times f p .0)
+  shown-times (NoneOf z) p e = not-shown e
+
   whole-times : checkOf Crate (Spans Times) v ≡ Fine → isCut Crate Times (length v) ≡ false
   unfolding recordOf
   whole-times c =
       let t : typeOf (b .own) ≡ kindType (Spans Times) = sym (b .type) ∙ type-fine Crate v (Spans Times) c in
-      let e : recordAs (AKind (Spans Times)) Standard (b .own) ≡ shown (b .asked) = rw (t, kind-type (Spans Times)) at
-      (b .shows) in
-      le-ltb 12 (length v) (omega (arith, by-fields (fieldsOf Standard Times (b .own)) refl e, b .longer))
-    where
-      long : (f : Fields) → fieldsOf Standard Times (b .own) ≡ Shown f → 12 ≤ length (b .own)
-      unfolding checkOf fitness standardRule
-      long f p =
-          let c = fields-fine Standard (b .own) Times f p .0 in
-          by-test (eqb (typeOf (b .own)) (kindType (Spans Times)))
-          (λ _. by-rule (leb 12 (length (b .own))) refl) (λ _ e. no-fault e) c
-        where
-          by-rule : (t : Bool) → leb 12 (length (b .own)) ≡ t → rule t 12 (length (b .own)) ≡ Fine
-              → 12 ≤ length (b .own)
-          by-rule true u e = leb-true _ _ u
-          by-rule false u e = no-fault e
-
-      by-fields : (x : FieldsOr) → fieldsOf Standard Times (b .own) ≡ x
-          → onFields x (λ f. onShown (pairsShown Standard (b .own)) (λ l. shown (received f l))) ≡ shown (b .asked)
-          → 12 ≤ length (b .own)
-      by-fields (Shown f) p e = long f p
-      by-fields (NoneOf z) p e = not-shown e
+      let e : recordAs (AKind (Spans Times)) Standard (b .own) ≡ shown (b .asked) =
+      rw (t, kind-type (Spans Times)) at (b .shows) in
+      le-ltb 12 (length v) (omega (arith, shown-times (fieldsOf Standard Times (b .own)) refl e, b .longer))
 
   module _ (m : misleads s k ≡ false) where
     -- what the crate shows is what is asked
@@ -187,11 +186,19 @@ module _ (s : List ℕ) (k : ℕ) (b : Both s k) where
         let i : c ≡ b .asked = same-record c (b .asked) (not-false (sameRecord c (b .asked)) d) in
         rw i (shown-answered Standard s k (b .asked) (shown (b .own)) (b .standard) (b .some) (b .shows))
 
+    fields-same : (g : Ranged) (f : Fields) → fieldsOf Crate g v ≡ Shown f → fieldsAsked Standard s k g ≡ Shown f
+    fields-same (Chunks a) f e =
+        let p = fields-fine Crate v (Chunks a) f e in
+        rw (p .2) at (same _ (chunks-record Crate v a (p .0)) .0)
+    fields-same Times f e =
+        let p = fields-fine Crate v Times f e in
+        rw (p .2) at (same _ (times-record Crate v (p .1) (p .0)) .0)
+
     pub as-standard : AsStandard s k
     unfolding fieldsAsked numbersAsked pairsAsked timeAsked entriesAsked
     as-standard =
         record {
-          fields = λ g f e. by-range g f (rw (b .crate) at e);
+          fields = λ g f e. fields-same g f (rw (b .crate) at e);
           numbers = λ a l e. let p = numbers-fine Crate v a l (rw (b .crate) at e) in
               rw (p .1) at (same _ (chunks-record Crate v a (p .0)) .1);
           pairs = λ l e. let p = pairs-fine Crate v l (rw (b .crate) at e) in
@@ -201,9 +208,48 @@ module _ (s : List ℕ) (k : ℕ) (b : Both s k) where
           entries = λ l e. let p = entries-fine Crate v l (rw (b .crate) at e) in
               rw (p .1) at (same _ (echoes-record Crate v (p .0)));
         }
+
+  -- the other way round
+  module _ (h : AsStandard s k) where
+    answered : (c : Record) → Answered Crate s k c → Answered Standard s k c
+    answered (reported a f l) e = (h .fields (Chunks a) f (e .0), h .numbers a l (e .1))
+    answered (received f l) e = (h .fields Times f (e .0), h .pairs l (e .1))
+    answered (clocked t) e = h .time t e
+    answered (echoed l) e = h .entries l e
+    answered bare e = e
+
+    -- what the standard answers is all that the block shows
+    shown-own : (c : Record) → Answered Standard s k c → recordOf Standard (b .own) ≡ shown c
+    unfolding fieldsAsked numbersAsked pairsAsked timeAsked entriesAsked
+    shown-own (reported a f l) e =
+        let p = fields-fine Standard (b .own) (Chunks a) f (rw (b .standard) at (e .0)) in
+        let q = numbers-fine Standard (b .own) a l (rw (b .standard) at (e .1)) in
+        chunks-record Standard (b .own) a (p .0) ∙ (rw (p .2, q .1))
+    shown-own (received f l) e =
+        let p = fields-fine Standard (b .own) Times f (rw (b .standard) at (e .0)) in
+        let q = pairs-fine Standard (b .own) l (rw (b .standard) at (e .1)) in
+        times-record Standard (b .own) (p .1) (p .0) ∙ (rw (p .2, q .1))
+    shown-own (clocked t) e =
+        let p = time-fine Standard (b .own) t (rw (b .standard) at e) in
+        clock-record Standard (b .own) (p .0) ∙ (rw (p .1))
+    shown-own (echoed l) e =
+        let p = entries-fine Standard (b .own) l (rw (b .standard) at e) in
+        echoes-record Standard (b .own) (p .0) ∙ (rw (p .1))
+    shown-own bare e = absurd e
+
+    -- a block of no kind shows the standard as much
+    bare-own : recordOf Crate v ≡ shown bare → ⊥
+    unfolding recordOf
+    bare-own e = b .some (by-kind (kindOf (typeOf v)) refl e)
       where
-        by-range : (g : Ranged) (f : Fields) → fieldsOf Crate g v ≡ Shown f → fieldsAsked Standard s k g ≡ Shown f
-        by-range (Chunks a) f e = let p = fields-fine Crate v (Chunks a) f e in
-            rw (p .2) at (same _ (chunks-record Crate v a (p .0)) .0)
-        by-range Times f e = let p = fields-fine Crate v Times f e in
-            rw (p .2) at (same _ (times-record Crate v (p .1) (p .0)) .0)
+        by-kind : (t : KindOr) → kindOf (typeOf v) ≡ t → recordAs t Crate v ≡ shown bare → b .asked ≡ bare
+        by-kind t i e = cc
+
+    pub no-misleading : misleads s k ≡ false
+    no-misleading = rw (b .crate, b .standard) (by-shown (recordOf Crate v) refl)
+      where
+        by-shown : (x : Or Record) → recordOf Crate v ≡ x → differs x (recordOf Standard (b .own)) ≡ false
+        by-shown (refused z) e = refl
+        by-shown (shown c) e =
+            let a = shown-answered Crate s k c (shown v) (b .crate) (λ i. bare-own (rw i at e)) e in
+            rw (shown-own c (answered c a), same-self (numbersRow c))
