@@ -56,7 +56,7 @@ pub record Fits (f : Fields) : Type 0 where
   pub thinning : f .thinning ≤ 15
 
 module _ (type : ℕ) (f : Fields) (rest : List ℕ) where
-  fields-back : Fits f → fieldsAt (withFields type f rest) ≡ f
+  pub fields-back : Fits f → fieldsAt (withFields type f rest) ≡ f
   fields-back h =
       λ i.
       record {
@@ -84,7 +84,7 @@ pub record Laid (v : List ℕ) (r : Record) : Type 0 where
   pub announces : length v ≤ maxBytes → Announces v
   pub shows : recordOf Standard v ≡ shown r
 
-kind-rle : (a : Rle) → kindOf (rleType a) ≡ AKind (Spans (Chunks a))
+pub kind-rle : (a : Rle) → kindOf (rleType a) ≡ AKind (Spans (Chunks a))
 unfolding kindOf rangedOf rleOf
 kind-rle Loss = refl
 kind-rle Duplicate = refl

@@ -38,7 +38,7 @@ module _ (s : List ℕ) (h : Bytes s) where
   pub le64-lt : (at : ℕ) → le64 s at < 2 ^ 64
   le64-lt at = omega (arith, le32-lt at, le32-lt (at + 4))
 
-job-fits : (j : Job) (n : ℕ) → hasFields j n ≡ true → Body j → Fits (jobFields j)
+pub job-fits : (j : Job) (n : ℕ) → hasFields j n ≡ true → Body j → Fits (jobFields j)
 job-fits j n g h =
     let p = and-true (leb 10 (length (j .body))) _ g in
     let q = and-true (leb (jobFields j .thinning) 15) _ (p .1) in
@@ -49,7 +49,7 @@ job-fits j n g h =
       thinning = leb-true _ _ (q .0);
     }
 
-laid-as : (k : KindOr) (layout : Layout) (j : Job) → isBody k j ≡ true → Body j
+pub laid-as : (k : KindOr) (layout : Layout) (j : Job) → isBody k j ≡ true → Body j
     → Laid (bytesAs k layout j) (askedAs k j)
 laid-as (AKind (Spans (Chunks a))) layout j g h =
     let u = under-low16 (drop 10 (j .body)) (under-drop 256 10 (j .body) h) in
