@@ -84,7 +84,7 @@ pub record Laid (v : List ℕ) (r : Record) : Type 0 where
   pub announces : length v ≤ maxBytes → Announces v
   pub shows : recordOf Standard v ≡ shown r
 
-kind-rle : (a : Rle) → kindOf (rleType a) ≡ AKind (Spans (Chunks a))
+pub kind-rle : (a : Rle) → kindOf (rleType a) ≡ AKind (Spans (Chunks a))
 unfolding kindOf rangedOf rleOf
 kind-rle Loss = refl
 kind-rle Duplicate = refl
