@@ -1,5 +1,6 @@
 -- What a block shows in a reading is what each question about it is answered. Assumes nothing.
 --     shown-answered     of all that it shows
+--     by-kind            of a block of a kind
 use Prim.Native.Nat.{ℕ}
 use mathlib.Core.Path.{_≡_, refl, subst}
 use mathlib.Core.List.{List}
@@ -7,6 +8,7 @@ use Rattle.def_refusals.specs.Answers.{Or, shown, refused, onShown}
 use Rattle.def_wire.specs.declared.Reading.{Reading}
 use Rattle.def_wire.specs.declared.Rle.{Rle}
 use Rattle.def_wire.specs.declared.Ranged.the-variants.{Chunks, Times}
+use Rattle.def_wire.specs.declared.Kind.{Kind}
 use Rattle.def_wire.specs.declared.Kind.the-variants.{Spans, Clock, Echoes}
 use Rattle.def_wire.specs.declared.KindOr.{KindOr}
 use Rattle.def_wire.specs.declared.KindOr.the-variants.{AKind, NoKind}
@@ -57,17 +59,18 @@ module _ (g : Reading) (s : List ℕ) (k : ℕ) (v : List ℕ) (e : viewOf g s k
   echoed-by (shown l) p d = let i : echoed l ≡ r = cc in subst (Answered g s k) i (rw e p)
   echoed-by (refused z) p d = not-shown d
 
-  by-kind : (t : KindOr) → (r ≡ bare → ⊥) → recordAs t g v ≡ shown r → Answered g s k r
-  by-kind (AKind (Spans (Chunks a))) b d =
-      reported-by a (fieldsOf g (Chunks a) v) (numbersShown g a v) refl refl d
-  by-kind (AKind (Spans Times)) b d = received-by (fieldsOf g Times v) (pairsShown g v) refl refl d
-  by-kind (AKind Clock) b d = clocked-by (timeOf g v) refl d
-  by-kind (AKind Echoes) b d = echoed-by (entriesShown g v) refl d
-  by-kind NoKind b d = absurd (b (let i : r ≡ bare = cc in i))
+  pub by-kind : (t : Kind) → recordAs (AKind t) g v ≡ shown r → Answered g s k r
+  by-kind (Spans (Chunks a)) d = reported-by a (fieldsOf g (Chunks a) v) (numbersShown g a v) refl refl d
+  by-kind (Spans Times) d = received-by (fieldsOf g Times v) (pairsShown g v) refl refl d
+  by-kind Clock d = clocked-by (timeOf g v) refl d
+  by-kind Echoes d = echoed-by (entriesShown g v) refl d
 
-pub shown-answered : (g : Reading) (s : List ℕ) (k : ℕ) (r : Record) (w : Or (List ℕ)) → viewOf g s k ≡ w → (r ≡ bare → ⊥)
-    → onShown w (recordOf g) ≡ shown r → Answered g s k r
+  by-kind-or : (t : KindOr) → (r ≡ bare → ⊥) → recordAs t g v ≡ shown r → Answered g s k r
+  by-kind-or (AKind t) b d = by-kind t d
+  by-kind-or NoKind b d = absurd (b (let i : r ≡ bare = cc in i))
+
+pub shown-answered : (g : Reading) (s : List ℕ) (k : ℕ) (r : Record) (w : Or (List ℕ)) → viewOf g s k ≡ w
+    → (r ≡ bare → ⊥) → onShown w (recordOf g) ≡ shown r → Answered g s k r
 unfolding recordOf
-shown-answered g s k r (shown v) e b d = by-kind g s k v e r (kindOf (typeOf v)) b d
+shown-answered g s k r (shown v) e b d = by-kind-or g s k v e r (kindOf (typeOf v)) b d
 shown-answered g s k r (refused z) e b d = not-shown d
-

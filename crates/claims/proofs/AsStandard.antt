@@ -4,7 +4,7 @@
 --     as-standard     where it does not mislead, the crate answers as the standard
 --     no-misleading   and the other way round
 use Prim.Native.Nat.{ℕ, _≤_}
-use mathlib.Core.Path.{_≡_, refl, sym, ap, subst, _∙_}
+use mathlib.Core.Path.{_≡_, refl, sym, ap, ap₂, subst, _∙_}
 use mathlib.Core.Bool.{Bool, true, false, not}
 use mathlib.Core.List.{List}
 use native.Mathlib.Omega.{arith}
@@ -46,7 +46,7 @@ use Rattle.written.proofs.RecordsLaws.{not-shown, on-fine}
 use Rattle.old_readers.proofs.Same.{same-self, same-record}
 use Rattle.claims.specs.RoundTrip.{Answered}
 use Rattle.claims.specs.Careful.{AsStandard}
-use Rattle.claims.proofs.Answered.{shown-answered}
+use Rattle.claims.proofs.Answered.{shown-answered, by-kind}
 
 -- ---- a block of the asked kind
 
@@ -176,7 +176,7 @@ module _ (s : List ℕ) (k : ℕ) (b : Both s k) where
       let t : typeOf (b .own) ≡ kindType (Spans Times) = sym (b .type) ∙ type-fine Crate v (Spans Times) c in
       let e : recordAs (AKind (Spans Times)) Standard (b .own) ≡ shown (b .asked) =
       rw (t, kind-type (Spans Times)) at (b .shows) in
-      le-ltb 12 (length v) (omega (arith, shown-times (fieldsOf Standard Times (b .own)) refl e, b .longer))
+      le-ltb (length v) 12 (omega (arith, shown-times (fieldsOf Standard Times (b .own)) refl e, b .longer))
 
   module _ (m : misleads s k ≡ false) where
     -- what the crate shows is what is asked
@@ -224,26 +224,32 @@ module _ (s : List ℕ) (k : ℕ) (b : Both s k) where
     shown-own (reported a f l) e =
         let p = fields-fine Standard (b .own) (Chunks a) f (rw (b .standard) at (e .0)) in
         let q = numbers-fine Standard (b .own) a l (rw (b .standard) at (e .1)) in
-        chunks-record Standard (b .own) a (p .0) ∙ (rw (p .2, q .1))
+        chunks-record Standard (b .own) a (p .0) ∙ ap₂ (λ (x : Fields) (y : List ℕ). shown (reported a x y)) (p .2) (q .1)
     shown-own (received f l) e =
         let p = fields-fine Standard (b .own) Times f (rw (b .standard) at (e .0)) in
         let q = pairs-fine Standard (b .own) l (rw (b .standard) at (e .1)) in
-        times-record Standard (b .own) (p .1) (p .0) ∙ (rw (p .2, q .1))
+        times-record Standard (b .own) (p .1) (p .0)
+        ∙ ap₂ (λ (x : Fields) (y : List Receipt). shown (received x y)) (p .2) (q .1)
     shown-own (clocked t) e =
         let p = time-fine Standard (b .own) t (rw (b .standard) at e) in
-        clock-record Standard (b .own) (p .0) ∙ (rw (p .1))
+        clock-record Standard (b .own) (p .0) ∙ ap (λ (x : LongTime). shown (clocked x)) (p .1)
     shown-own (echoed l) e =
         let p = entries-fine Standard (b .own) l (rw (b .standard) at e) in
-        echoes-record Standard (b .own) (p .0) ∙ (rw (p .1))
+        echoes-record Standard (b .own) (p .0) ∙ ap (λ (x : List Echo). shown (echoed x)) (p .1)
     shown-own bare e = absurd e
 
-    -- a block of no kind shows the standard as much
-    bare-own : recordOf Crate v ≡ shown bare → ⊥
+    -- a block of no kind would show the standard as much
+    bare-own : (t : KindOr) → kindOf (typeOf v) ≡ t → recordAs t Crate v ≡ shown bare → ⊥
     unfolding recordOf
-    bare-own e = b .some (by-kind (kindOf (typeOf v)) refl e)
-      where
-        by-kind : (t : KindOr) → kindOf (typeOf v) ≡ t → recordAs t Crate v ≡ shown bare → b .asked ≡ bare
-        by-kind t i e = cc
+    bare-own (AKind t) i e = by-kind Crate s k v (b .crate) bare t e
+    bare-own NoKind i e =
+        let o : kindOf (typeOf (b .own)) ≡ NoKind = rw (b .type) at i in
+        let c : shown bare ≡ shown (b .asked) = rw o at (b .shows) in
+        b .some (let z : b .asked ≡ bare = cc in z)
+
+    never-bare : recordOf Crate v ≡ shown bare → ⊥
+    unfolding recordOf
+    never-bare e = bare-own (kindOf (typeOf v)) refl e
 
     pub no-misleading : misleads s k ≡ false
     no-misleading = rw (b .crate, b .standard) (by-shown (recordOf Crate v) refl)
@@ -251,5 +257,5 @@ module _ (s : List ℕ) (k : ℕ) (b : Both s k) where
         by-shown : (x : Or Record) → recordOf Crate v ≡ x → differs x (recordOf Standard (b .own)) ≡ false
         by-shown (refused z) e = refl
         by-shown (shown c) e =
-            let a = shown-answered Crate s k c (shown v) (b .crate) (λ i. bare-own (rw i at e)) e in
+            let a = shown-answered Crate s k c (shown v) (b .crate) (λ i. never-bare (e ∙ ap shown i)) e in
             rw (shown-own c (answered c a), same-self (numbersRow c))
