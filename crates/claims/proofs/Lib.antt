@@ -7,4 +7,5 @@ pub mod Walk
 pub mod Answered
 pub mod RoundTrip
 pub mod AsStandard
+pub mod Careful
 pub mod Twelve

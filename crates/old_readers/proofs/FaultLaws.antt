@@ -29,22 +29,17 @@ use Rattle.misled.specs.Misled.{misledBy, misledFault}
 use Rattle.written.proofs.Lists.{Each, each-at, each-drop}
 use Rattle.written.proofs.RecordsLaws.{Body, Good, Fit}
 use Rattle.written.proofs.Shows.{joined-blocks, whole-blocks, view-at}
+use Rattle.old_readers.proofs.BlockLaws.{block-misleads}
 use Rattle.old_readers.proofs.PacketLaws.{crate-stands, crate-view}
 use Rattle.old_readers.proofs.PaddedLaws.{crate-padded}
 
-abbrev pub BlockLaw : Type 0
-BlockLaw = (j : Job) → isBlockJob j ≡ true → Body j → (rest : List ℕ) → length rest % 4 ≡ 0
-    → length (blockBytes Careful j ++ rest) ≤ maxBytes
-    → differs (recordOf Crate (blockBytes Careful j ++ rest)) (recordOf Standard (blockBytes Careful j))
-    ≡ misledBy j (length rest)
-
 -- a refused packet misleads nobody
-refused-nobody : (s : List ℕ) (x : Refusal) → countOf Crate s ≡ Refused x → (n k : ℕ) → misleadingFrom s k n ≡ Fine
+pub refused-nobody : (s : List ℕ) (x : Refusal) → countOf Crate s ≡ Refused x → (n k : ℕ) → misleadingFrom s k n ≡ Fine
 unfolding misleadingFrom locate
 refused-nobody s x e zero k = refl
 refused-nobody s x e (suc n) k = rw e (refused-nobody s x e n (suc k))
 
-module _ (block-misleads : BlockLaw) (h : Job) (js : List Job) (s : List ℕ) (w : Fit Careful h js s) (bh : Body h)
+module _ (h : Job) (js : List Job) (s : List ℕ) (w : Fit Careful h js s) (bh : Body h)
     (b : Each Body js) where
   module _ (z : askedPadding h ≡ 0) where
     pub misleads-at : (k : ℕ) → k < length js

@@ -1,7 +1,7 @@
 -- The crate reading of a carefully written packet. Assumes nothing.
 --     crate-count      without padding it has a block for each record but the first
 --     crate-view       and block k's view is the block and all the blocks behind it
---     crate-refuses    with padding it is refused
+--     block-some       no block is empty
 use Prim.Native.Nat.{ℕ, zero, suc, _+_, _*_, _-_, _/_, _%_, _≤_, _<_}
 use mathlib.Core.Path.{_≡_, refl, sym, ap, _∙_}
 use mathlib.Core.Bool.{true}
@@ -16,7 +16,7 @@ use Rattle.def_wire.specs.Packet.{placeOf, headerOf, countOf, viewOf}
 use Rattle.def_jobs.specs.declared.Layout.the-variants.{Careful}
 use Rattle.def_jobs.specs.Jobs.{Job, cutJob, senderOf, askedPadding}
 use Rattle.def_jobs.specs.Layout.{paddingBytes, blockBytes, blocksBytes}
-use Rattle.written.proofs.Lists.{Each}
+use Rattle.written.proofs.Lists.{Each, each-at}
 use Rattle.written.proofs.WalkLaws.{joined, Announces, length-joined, count-blocks, locate-block, block-stands}
 use Rattle.written.proofs.RecordsLaws.{Body, Fit}
 use Rattle.written.proofs.HeaderLaws.{around, length-around, header-around}
@@ -32,6 +32,14 @@ behind-blocks (j ∷ js) (suc k) = behind-blocks js k
 module _ (h : Job) (js : List Job) (s : List ℕ) (w : Fit Careful h js s) (bh : Body h) (b : Each Body js) where
   abbrev bs : List (List ℕ)
   bs = blocksOf Careful js
+
+  -- no block is empty
+  pub block-some : (k : ℕ) → k < length js → 0 < length (blockBytes Careful (getD js k cutJob))
+  block-some k l =
+      let m : k < length bs = rw (length-map js (blockBytes Careful)) l in
+      let a = each-at Announces [] bs k (announced Careful h js s w bh b) m in
+      let n : 0 < length (getD bs k []) = omega (arith, a) in
+      rw (block-at Careful js k) at n
 
   -- ---- without padding
 
