@@ -1,12 +1,16 @@
 -- The packet of a list whose size is known: its header record, its blocks and its padding, in a buffer with room for
 -- it. Assumes nothing.
---     Framed     the list's records are good, and this is the packet's size
+--     Framed               the list's records are good, and this is the packet's size
+--     packet-done, packet-misleads, packet-refused     what is answered before 11
+--     fifteen-padded, fifteen-bare                     15 by the list's records
 use Prim.Native.Nat.{ℕ, _+_, _-_, _/_, _≤_}
 use mathlib.Core.Path.{_≡_, refl, sym, ap, subst, _∙_}
-use mathlib.Core.Bool.{true}
+use mathlib.Core.Bool.{true, cond}
 use mathlib.Core.List.{List, _∷_, _++_}
 use native.Mathlib.Omega.{arith}
 use lib.ListN.{length, drop}
+use lib.Dec.{eqb}
+use borrow.Author.Tests.{eq-eqb, ne-eqb}
 use Rattle.def_refusals.specs.declared.Refusal.{Refusal}
 use Rattle.def_refusals.specs.declared.Answer.the-variants.{Done, Refused}
 use Rattle.def_refusals.specs.declared.Checked.{Checked}
@@ -14,10 +18,10 @@ use Rattle.def_refusals.specs.declared.Checked.the-variants.{Fine, Unfit}
 use Rattle.def_refusals.specs.Answers.{shown, refused, thenCheck}
 use Rattle.def_wire.specs.Bytes.{two, four}
 use Rattle.def_jobs.specs.declared.Layout.{Layout}
-use Rattle.def_jobs.specs.declared.Layout.the-variants.{Plain}
+use Rattle.def_jobs.specs.declared.Layout.the-variants.{Careful}
 use Rattle.def_jobs.specs.Jobs.{Job, le32, isWhole, jobAt, jobsOf, isHeaderJob, jobsFault, askedPadding, senderOf}
 use Rattle.def_jobs.specs.Layout.{blocksBytes, firstByte, paddingBytes, layoutOf}
-use Rattle.def_jobs.specs.Writing.{sizeFault, writeFault, packetOf}
+use Rattle.def_jobs.specs.Writing.{sizeFault, misleadFault, writeFault, packetOf}
 use Rattle.laws.specs.Stores.{Wrote}
 use Rattle.laws.proofs.Tests.{and-true}
 use Rattle.laws.proofs.Stores.{and-then, same, filled}
@@ -26,6 +30,11 @@ use Rattle.jobs.proofs.JobsLaws.{jobs-next, fault-good, fine-first}
 use Rattle.jobs.proofs.PlaceLaws.{next-whole}
 use Rattle.jobs.proofs.LayoutLaws.{length-layout, length-padding}
 use Rattle.jobs.proofs.SizeLaws.{header-padding, size-done, size-refused}
+use Rattle.misled.specs.Misled.{misledFault}
+use Rattle.utils.proofs.BytesLaws.{Bytes}
+use Rattle.written.proofs.Lists.{Each}
+use Rattle.written.proofs.RecordsLaws.{Body, bodies, fit}
+use Rattle.old_readers.proofs.FaultLaws.{careful-fault}
 
 not-unfit : {P : Type 0} {x : Refusal} → Fine ≡ Unfit x → P
 not-unfit {x = x} e = absurd (let z : _≡_ {A = ℕ} 0 1 = cc in omega arith)
@@ -97,18 +106,45 @@ then-more Fine Fine c x e = not-unfit e
 then-more Fine (Unfit y) c x e = e
 then-more (Unfit y) b c x e = e
 
--- plain writing: 12 and 14 are all that can be refused before 11
-module _ (list : List ℕ) where
-  pub plain-done : (size : ℕ) → sizeAnswer Plain (jobsOf list) ≡ Done size
-      → packetOf Plain list ≡ shown (layoutOf Plain (jobsOf list))
-  unfolding packetOf writeFault
-  plain-done size e =
-      let z = size-done Plain (jobsOf list) size e in
-      rw (z .good, z .fits)
+-- before 11 come 12 and 14, and 15 where the layout asks for it
+abbrev pub fifteen : Layout → List ℕ → Checked
+fifteen layout list = misleadFault layout (layoutOf layout (jobsOf list)) (length (jobsOf list) - 1)
 
-  pub plain-refused : (x : Refusal) → sizeAnswer Plain (jobsOf list) ≡ Refused x → packetOf Plain list ≡ refused x
+module _ (layout : Layout) (list : List ℕ) where
+  module _ (size : ℕ) (e : sizeAnswer layout (jobsOf list) ≡ Done size) where
+    pub packet-done : fifteen layout list ≡ Fine → packetOf layout list ≡ shown (layoutOf layout (jobsOf list))
+    unfolding packetOf writeFault
+    packet-done f = let z = size-done layout (jobsOf list) size e in rw (z .good, z .fits, f)
+
+    pub packet-misleads : (x : Refusal) → fifteen layout list ≡ Unfit x → packetOf layout list ≡ refused x
+    unfolding packetOf writeFault
+    packet-misleads x f = let z = size-done layout (jobsOf list) size e in rw (z .good, z .fits, f)
+
+  pub packet-refused : (x : Refusal) → sizeAnswer layout (jobsOf list) ≡ Refused x → packetOf layout list ≡ refused x
   unfolding packetOf writeFault
-  plain-refused x e =
+  packet-refused x e =
       rw (then-more (jobsFault 0 (jobsOf list)) (sizeFault (length (jobsOf list) - 1)
-      (length (layoutOf Plain (jobsOf list)))) Fine x
-      (size-refused Plain (jobsOf list) x e))
+      (length (layoutOf layout (jobsOf list)))) (fifteen layout list) x
+      (size-refused layout (jobsOf list) x e))
+
+-- 15 by the list's records: none with padding
+module _ (list : List ℕ) (size : ℕ) (e : sizeAnswer Careful (jobsOf list) ≡ Done size) (b : Bytes list) where
+  fifteen-is : fifteen Careful list ≡ cond (eqb (askedPadding (jobAt list)) 0) (misledFault 0 (behind list)) Fine
+  fifteen-is =
+      let z = size-done Careful (jobsOf list) size e in
+      let j = framed Careful list size e .jobs in
+      let h = subst (Each Body) j (bodies list b) in
+      let n : length (jobAt list ∷ behind list) - 1 ≡ length (behind list) = omega arith in
+      rw (j, n)
+      (careful-fault (jobAt list) (behind list) _
+      (fit Careful (jobAt list) (behind list) (rw j at (z .good)) (rw j at (z .fits))) (h .0) (h .1))
+
+  pub fifteen-padded : (askedPadding (jobAt list) ≡ 0 → ⊥) → Fine ≡ fifteen Careful list
+  fifteen-padded p = sym (fifteen-is ∙ (rw (ne-eqb _ _ p)))
+
+  pub fifteen-bare : askedPadding (jobAt list) ≡ 0 → misledFault 0 (behind list) ≡ fifteen Careful list
+  fifteen-bare p = sym (fifteen-is ∙ (rw (eq-eqb _ _ p)))
+
+  -- the blocks of a packet without padding
+  pub blocks-size : askedPadding (jobAt list) ≡ 0 → (8 ≤ size) × (size - 8 ≡ length (blocksBytes Careful (behind list)))
+  blocks-size p = let f = framed Careful list size e in (omega (arith, f .sized), omega (arith, f .sized, p))

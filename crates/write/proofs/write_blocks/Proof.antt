@@ -4,7 +4,8 @@ use mathlib.Core.Path.{_≡_}
 use Prim.Native.Nat.{_+_, _-_}
 use lib.ListN.{length, drop}
 use Rattle.jobs.specs.Sizes.{nextJob, jobsBehind}
-use Rattle.write.proofs.BlocksTurn.{Writing, begun, whole, past, block, room, turned, finished}
+use Rattle.write.proofs.AheadLaws.{whole, past, block}
+use Rattle.write.proofs.BlocksTurn.{Writing, begun, room, turned, finished}
 use borrow.Author.Needs.{needs}
 use Rattle.write.proofs.write_blocks.Statement.{statement}
 use Rattle.write.proofs.write_blocks.Tie as tie
@@ -24,8 +25,7 @@ loop-holds c = let s = c .before .before in
 whole-body-requires : tie.Need-whole-body-requires Inv-loop μ-loop
 whole-body-requires c κs = let p = c .before in
     let a = p .before .before .before .args in
-    whole (a .layout) (a .list .now) (jobsBehind (drop (a .from) (a .list .now))) (a .out .now) (a .start)
-    (p .loop .out) (p .loop .at) (p .loop .n) (p .loop .inv) (c .loop-test .taken)
+    whole (a .list .now) (p .loop .at) (p .loop .inv .good) (c .loop-test .taken)
 
 whole-kind-requires : tie.Need-whole-kind-requires Inv-loop μ-loop
 whole-kind-requires c κs = whole-body-requires (c .before) κs
@@ -36,8 +36,7 @@ write-block-requires c κs = let k = c .before in
     let i = b .before in
     let p = i .before in
     let a = p .before .before .before .args in (
-      block (a .layout) (a .list .now) (jobsBehind (drop (a .from) (a .list .now))) (a .out .now) (a .start)
-          (p .loop .out) (p .loop .at) (p .loop .n) (p .loop .inv) (i .loop-test .taken)
+      block (a .list .now) (p .loop .at) (p .loop .inv .good) (i .loop-test .taken)
           (k .whole-kind .result) (b .whole-body .result .now) (k .whole-kind .ensures) (b .whole-body .ensures),
       room (a .layout) (a .list .now) (jobsBehind (drop (a .from) (a .list .now))) (a .out .now) (a .start)
           (p .loop .out) (p .loop .at) (p .loop .n) (p .loop .inv) (i .loop-test .taken)
@@ -51,8 +50,7 @@ next : (c : tie.After-whole-body Inv-loop μ-loop) → let p = c .before .before
 next c = let i = c .before in
     let p = i .before in
     let a = p .before .before .before .args in
-    past (a .layout) (a .list .now) (jobsBehind (drop (a .from) (a .list .now))) (a .out .now) (a .start)
-    (p .loop .out) (p .loop .at) (p .loop .n) (p .loop .inv) (i .loop-test .taken)
+    past (a .list .now) (p .loop .at) (p .loop .inv .good) (i .loop-test .taken)
     (c .whole-body .result .now) (c .whole-body .ensures)
 
 add-at : tie.Need-add-at Inv-loop μ-loop

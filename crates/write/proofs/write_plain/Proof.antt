@@ -1,10 +1,11 @@
 -- `write::write_plain` meets its contract: 12, 14, then 11 or the packet.
-use mathlib.Core.Path.{sym, _∙_}
+use mathlib.Core.Path.{refl, sym, _∙_}
 use mathlib.Core.List.{List}
 use Prim.Native.Nat.{ℕ}
 use Rattle.def_refusals.specs.Answers.{Or, Listed}
 use Rattle.laws.proofs.Answering.{turned-away}
-use Rattle.write.proofs.PacketLaws.{plain-done, plain-refused}
+use Rattle.write.proofs.PacketLaws.{packet-done, packet-refused}
+use Rattle.def_jobs.specs.declared.Layout.the-variants.{Plain}
 use borrow.Author.Needs.{needs}
 use Rattle.write.proofs.write_plain.Statement.{statement}
 use Rattle.write.proofs.write_plain.Tie as tie
@@ -18,7 +19,7 @@ returns c = let w = c .before .before in
     let n = w .before .before .before in
     let z = n .before .before in
     let a = z .before .before .before .args in
-    rw (plain-done (a .list .now) (n .n .given .0 .0) (sym (z .packet-size .ensures) ∙ n .n .given .1))
+    rw (packet-done Plain (a .list .now) (n .n .given .0 .0) (sym (z .packet-size .ensures) ∙ n .n .given .1) refl)
     (w .put .ensures)
 
 returns-2 : tie.Need-returns-2
@@ -26,7 +27,7 @@ returns-2 c = let x = c .before in
     let z = x .before .before in
     let a = z .before .before .before .args in
     turned-away _ (a .out .now) (x .x .given .0 .0)
-    (plain-refused (a .list .now) (x .x .given .0 .0) (sym (z .packet-size .ensures) ∙ x .x .given .1))
+    (packet-refused Plain (a .list .now) (x .x .given .0 .0) (sym (z .packet-size .ensures) ∙ x .x .given .1))
 
 pub write-plain-spec : {M : Type 1} → statement M
 write-plain-spec =
