@@ -1,0 +1,77 @@
+-- Worked facts of `misledBy`, each computed: records whose block misleads an old reader, and such that look like them
+-- and do not.
+--     low, loss, times, entries       how they are written down
+--     Words, words-hold               types 1 and 2
+--     OfTimes, times-hold             type 3
+--     Entries, entries-hold           type 5
+use Prim.Native.Nat.{ℕ, _*_, _/_, _%_}
+use mathlib.Core.Path.{_≡_, refl}
+use mathlib.Core.Bool.{Bool, true, false}
+use mathlib.Core.List.{List, [], _∷_}
+use lib.ListN.{replicate}
+use Rattle.def_wire.specs.Block.{rleOf, rangedOf, kindOf}
+use Rattle.def_standard.specs.Chunks.{valuesIn}
+use Rattle.def_standard.specs.Range.{rangeOf, offsetOf, inside, numberOf}
+use Rattle.def_crate.specs.Sequence.{passes}
+use Rattle.range.specs.Inside.{ceilDiv, insideCount}
+use Rattle.range.specs.Failing.{firstFail}
+use Rattle.def_jobs.specs.Jobs.{pairLow, isBlockJob}
+use Rattle.jobs.specs.Sizes.{jobOf}
+use Rattle.misled.specs.Misled.{outsideFrom, goesOn, misledTimes, misledEchoes, misledBy}
+
+-- numbers of two bytes, the least significant first
+abbrev pub low : List ℕ → List ℕ
+low [] = []
+low (x ∷ xs) = x % 256 ∷ x / 256 ∷ low xs
+
+-- a loss record of SSRC 7 with begin, end, thinning and words, as the last block
+abbrev pub loss : ℕ → ℕ → ℕ → List ℕ → Bool
+loss b e t ws = misledBy (jobOf 1 (low (7 ∷ 0 ∷ b ∷ e ∷ t ∷ ws))) 0
+
+pub record Words : Type 0 where
+  -- a range of two, and a third one: in a word of its own, whose start then lies at end or past it, it passes; in a
+  -- word that begins inside it fails, and ends the list
+  pub of-two :
+      (loss 10 12 0 (16386 ∷ 16385 ∷ []) ≡ true) × (loss 10 12 0 (2 ∷ 16385 ∷ []) ≡ true)
+      × (loss 10 12 0 (16387 ∷ []) ≡ false) × (loss 10 12 0 (16387 ∷ 16385 ∷ []) ≡ false)
+  -- a range at the top of the circle, and a vector with ones at places 0 and 6, which has the number 0
+  pub near-the-top : loss 65530 65531 0 (49408 ∷ []) ≡ true
+  -- two positions on the circle, and a third one on the first's number
+  pub around : (loss 0 0 15 (16387 ∷ []) ≡ true) × (loss 0 40000 15 (16387 ∷ []) ≡ true)
+
+pub words-hold : Words
+unfolding rleOf rangedOf kindOf valuesIn rangeOf offsetOf inside numberOf passes pairLow isBlockJob outsideFrom goesOn
+    misledBy
+words-hold =
+    record {
+      of-two = (refl, refl, refl, refl);
+      near-the-top = refl;
+      around = (refl, refl);
+    }
+
+-- a record of one time in a range of two, and of two, with so many bytes behind the block
+abbrev pub times : List ℕ → ℕ → Bool
+times ts behind = misledBy (jobOf 3 (low (7 ∷ 0 ∷ 5 ∷ 7 ∷ 0 ∷ ts))) behind
+
+pub record OfTimes : Type 0 where
+  -- one own time: four bytes behind it are taken for a second
+  pub one : (times (1 ∷ 0 ∷ []) 0 ≡ false) × (times (1 ∷ 0 ∷ []) 3 ≡ false) × (times (1 ∷ 0 ∷ []) 4 ≡ true)
+  -- two: the range ends the list
+  pub two : times (1 ∷ 0 ∷ 2 ∷ 0 ∷ []) 4 ≡ false
+
+pub times-hold : OfTimes
+unfolding rleOf rangedOf kindOf rangeOf ceilDiv insideCount firstFail pairLow isBlockJob misledTimes misledBy
+times-hold = record { one = (refl, refl, refl); two = refl }
+
+-- a record of so many entries, with so many bytes behind the block
+abbrev pub entries : ℕ → ℕ → Bool
+entries n behind = misledBy (jobOf 5 (replicate (12 * n) 0)) behind
+
+pub record Entries : Type 0 where
+  pub one : (entries 1 8 ≡ false) × (entries 1 12 ≡ true)
+  pub two : entries 2 12 ≡ false
+  pub five : entries 5 12 ≡ true
+
+pub entries-hold : Entries
+unfolding rleOf rangedOf kindOf isBlockJob misledEchoes misledBy
+entries-hold = record { one = (refl, refl); two = refl; five = refl }
