@@ -1,5 +1,5 @@
--- FirstLaws (a word's first one from a place on), OutsideLaws (its first one outside the range), WordsTurn (one turn of
--- the pass over the words), MisledLaws (whether a record misleads, by its kind), Worked (worked facts), Unique (no
+-- FirstLaws (a word's first one from a place on), OutsideLaws (its first one outside the range), WordsTurn (one turn
+-- of the pass over the words), MisledLaws (whether a record misleads, by its kind), Worked (worked facts), Unique (no
 -- second answer).
 pub mod FirstLaws
 pub mod OutsideLaws

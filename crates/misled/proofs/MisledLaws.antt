@@ -40,7 +40,8 @@ module _ (j : Job) (behind : ℕ) where
   misled-none e = rw e (sym (and-false-r (isBlockJob j)))
 
   module _ (b : isBlockJob j ≡ true) where
-    pub misled-echoes : kindOf (j .kind) ≡ AKind Echoes → misledEchoes (length (j .body) / 12) behind ≡ misledBy j behind
+    pub misled-echoes : kindOf (j .kind) ≡ AKind Echoes
+        → misledEchoes (length (j .body) / 12) behind ≡ misledBy j behind
     unfolding misledBy
     misled-echoes e = rw (b, e)
 

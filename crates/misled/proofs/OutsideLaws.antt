@@ -1,17 +1,16 @@
--- Where a word's first one outside the range is, place by place: the one place that unfolds `outsideFrom`. `left` of the
--- positions from the word's first one on are inside. Assumes nothing.
+-- Where a word's first one outside the range is, place by place: the one place that unfolds `outsideFrom`. Of the
+-- positions from the word's first on, `left` are inside. Assumes nothing.
 --     outside-clear     a word that ends inside has none
---     outside-first     else it is the first one from place `left` on
---     outside-none      where the first one from there on lies past the word, there is none
-use Prim.Native.Nat.{ℕ, zero, suc, _+_, _-_, _≤_, _<_, min}
-use mathlib.Core.Path.{_≡_, refl, sym, ap, _∙_}
+--     outside-first     it is the first one from place `left` on
+--     outside-none      where that lies past the word, there is none
+use Prim.Native.Nat.{ℕ, zero, suc, _+_, _-_, _≤_, _<_}
+use mathlib.Core.Path.{_≡_, refl, _∙_}
 use mathlib.Core.Bool.{Bool, false, cond, not, _&&_}
-use native.Mathlib.Nat.{add-zero}
 use native.Mathlib.Omega.{arith}
 use lib.ListN.{length, drop, drop-of-length-le}
 use lib.Seq.{drop-cons}
 use lib.Dec.{eqb, ltb}
-use borrow.Author.Tests.{eq-eqb, ne-eqb, ltb-true, ltb-false}
+use borrow.Author.Tests.{eq-eqb, ltb-true, ltb-false}
 use Rattle.laws.proofs.Tests.{either, and-false-r}
 use Rattle.def_standard.specs.declared.Range.{Range}
 use Rattle.def_standard.specs.Chunks.{coversOf, valueOf, valuesIn}
@@ -31,7 +30,7 @@ module _ (g : Range) (p w : ℕ) where
   unfoldable outHere : ℕ → ℕ
   outHere q = outsideFrom g p q (drop q (valuesIn w))
 
-  out-start : outHere 0 ≡ outsideAt g p w
+  out-start : outsideAt g p w ≡ outHere 0
   unfolding outHere
   out-start = refl
 
@@ -46,44 +45,37 @@ module _ (g : Range) (p w : ℕ) where
       let k : q < length (valuesIn w) = omega (arith, length-valuesIn w) in
       rw (drop-cons (valuesIn w) q 0 k, values-at w q h)
 
-  -- places that are inside or zero are passed over
-  out-over : (n q r : ℕ) → q + n ≡ r → r ≤ coversOf w → ((i : ℕ) → i < r → isOut i ≡ false) → outHere q ≡ outHere r
-  out-over zero q r e h z = ap outHere (let k : q ≡ r = omega arith in k)
-  out-over (suc n) q r e h z =
-      out-place q (omega arith) ∙ (rw (z q (omega arith)) (out-over n (suc q) r (omega arith) h z))
+  -- places that are not are passed over
+  out-from : (k : ℕ) → k ≤ coversOf w → ((i : ℕ) → i < k → isOut i ≡ false) → outsideAt g p w ≡ outHere k
+  out-from zero h z = out-start
+  out-from (suc k) h z =
+      out-from k (omega arith) (λ i a. z i (omega arith)) ∙ out-place k (omega arith) ∙ (rw (z k (omega arith)))
 
-  in-range : (i : ℕ) → p + i < insideCount g → isOut i ≡ false
-  in-range i h = rw (is-inside g (p + i) h) (and-false-r (eqb (valueOf w i) 1))
+  out-none : ((i : ℕ) → i < coversOf w → isOut i ≡ false) → coversOf w ≤ outsideAt g p w
+  out-none z = omega (arith, out-from (coversOf w) (omega arith) z, out-end (coversOf w) (omega arith))
 
-  is-zero : (i : ℕ) → valueOf w i ≡ 0 → isOut i ≡ false
-  is-zero i e = rw e
+  module _ {left : ℕ} (l : left ≡ insideCount g - p) where
+    is-in : (i : ℕ) → i < left → isOut i ≡ false
+    is-in i h =
+        let k : p + i < insideCount g = omega arith in
+        rw (is-inside g (p + i) k) (and-false-r (eqb (valueOf w i) 1))
 
-  module _ (left : ℕ) (l : left ≡ insideCount g - p) where
-    -- a word that ends inside has none
     pub outside-clear : coversOf w ≤ left → coversOf w ≤ outsideAt g p w
-    outside-clear h =
-        omega (
-          arith,
-          sym out-start ∙ out-over (coversOf w) 0 (coversOf w) (omega arith) (omega arith) (λ i a. in-range i (omega arith)),
-          out-end (coversOf w) (omega arith),
-        )
+    outside-clear h = out-none (λ i a. is-in i (omega arith))
 
-    -- the first one from place `left` on is outside
-    module _ (r : ℕ) (f : FirstOne w left r) (h : left < coversOf w) where
-      -- up to it nothing is
-      to-first : (k : ℕ) → k ≤ coversOf w → k ≤ r → outsideAt g p w ≡ outHere k
-      to-first k c d =
-          sym out-start
-          ∙ out-over k 0 k (omega arith) c (λ i a. either (ltb i left)
-          (λ t. let n : i < left = ltb-true _ _ t in in-range i (omega arith))
-          (λ t. let n : left ≤ i = ltb-false _ _ t in is-zero i (f .zeros i n (omega arith) (omega arith))))
+    module _ {r : ℕ} (f : FirstOne w left r) where
+      -- up to the first one, places are inside or zero
+      is-before : (i : ℕ) → i < r → i < coversOf w → isOut i ≡ false
+      is-before i a b =
+          either (ltb i left)
+          (λ t. is-in i (ltb-true _ _ t))
+          (λ t. rw (f .zeros i (ltb-false _ _ t) a b))
 
       pub outside-first : r < coversOf w → outsideAt g p w ≡ r
       outside-first k =
           let o : insideCount g ≤ p + r = omega (arith, f .from) in
-          to-first r (omega arith) (omega arith)
+          out-from r (omega arith) (λ i a. is-before i a (omega arith))
           ∙ out-place r k ∙ (rw (eq-eqb _ _ (f .one k), is-outside g (p + r) o))
 
       pub outside-none : coversOf w ≤ r → coversOf w ≤ outsideAt g p w
-      outside-none k =
-          omega (arith, to-first (coversOf w) (omega arith) k, out-end (coversOf w) (omega arith))
+      outside-none k = out-none (λ i a. is-before i (omega arith) a)

@@ -1,10 +1,11 @@
--- One turn of the pass over the words of a body of types 1 and 2: the word at an index of the bytes. Assumes nothing.
---     Passing     words were passed: `left` positions from here on are inside, and `p` is the next one on the circle
---     begin       before the first word
---     ended       behind the last
---     found       the word at hand has the first one outside
---     next-clear  it ends inside, so it has none
---     next-none   it goes on outside, and has none there
+-- One turn of the pass over the words of a body of types 1 and 2. Assumes nothing.
+--     Passing        so far words were passed
+--     Word           the word at an index of the bytes
+--     begin          before the first word
+--     ended          behind the last
+--     next-clear     the word at hand ends inside the range, and is passed
+--     next-none      it goes on outside, has no one there, and is passed
+--     found          it has one
 use Prim.Native.Nat.{ℕ, suc, _+_, _*_, _-_, _/_, _%_, _^_, _≤_, _<_}
 use mathlib.Core.Path.{_≡_, refl, sym, ap, _∙_}
 use mathlib.Core.Bool.{false, cond}
@@ -29,9 +30,10 @@ use Rattle.misled.specs.Known.{Fielded, FirstOne}
 use Rattle.misled.proofs.OutsideLaws.{outside-clear, outside-first, outside-none}
 
 -- a body's words
-abbrev pub wordsOf : List ℕ → List ℕ
+abbrev wordsOf : List ℕ → List ℕ
 wordsOf body = jobWords (jobOf 1 body)
 
+-- up to an index of the bytes: `left` positions from there on are inside, and `p` is the first of them on the circle
 pub record Passing (g : Range) (end : ℕ) (body : List ℕ) (left p at : ℕ) : Type 0 where
   pub word : ℕ
   pub position : ℕ
@@ -39,6 +41,12 @@ pub record Passing (g : Range) (end : ℕ) (body : List ℕ) (left p at : ℕ) :
   pub inside : left ≡ insideCount g - position
   pub circle : p ≡ position % 65536
   pub same : goesOn g end position (drop word (wordsOf body)) ≡ goesOn g end 0 (wordsOf body)
+
+-- w stands there, and covers n positions
+pub record Word (body : List ℕ) (at w n : ℕ) : Type 0 where
+  pub within : at < length body
+  pub bytes : w ≡ le16 body at
+  pub covers : n ≡ coversOf w
 
 -- a position's number is that of its place on the circle
 numberOf-circle : (g : Range) (p q : ℕ) → numberOf g (p % 65536 + q) ≡ numberOf g (p + q)
@@ -51,63 +59,62 @@ numberOf-circle g p q =
     sym (ap (λ (x : ℕ). (g .begin + (x + q) * t) % 65536) (sym (div-add-mod p 65536))
     ∙ ap (λ (x : ℕ). x % 65536) e ∙ add-mul-mod-self-left (g .begin + (r + q) * t) 65536 (n * t))
 
-module _ (g : Range) (end : ℕ) (body : List ℕ) (f : Fielded body 2) where
-  pub begin : Passing g end body (insideCount g) 0 10
-  begin =
-      record { word = 0; position = 0; index = refl; inside = omega arith; circle = refl; same = refl }
+pub begin : (g : Range) (end : ℕ) (body : List ℕ) → Passing g end body (insideCount g) 0 10
+begin g end body =
+    record { word = 0; position = 0; index = refl; inside = omega arith; circle = refl; same = refl }
 
-  module _ {left p at : ℕ} (s : Passing g end body left p at) where
-    pub ended : length body ≤ at → goesOn g end 0 (wordsOf body) ≡ false
+module _ {g : Range} {end : ℕ} {body : List ℕ} {left p at : ℕ} (f : Fielded body 2)
+    (s : Passing g end body left p at) where
+  pub ended : length body ≤ at → goesOn g end 0 (wordsOf body) ≡ false
+  unfolding goesOn
+  ended h =
+      let k : length (wordsOf body) ≤ s .word = omega (arith, length-words (jobOf 1 body), s .index) in
+      sym (s .same) ∙ (rw (drop-of-length-le (wordsOf body) k))
+
+  module _ {w n : ℕ} (h : Word body at w n) where
+    abbrev out : ℕ
+    out = outsideAt g (s .position) w
+
+    words-cons : drop (s .word) (wordsOf body) ≡ w ∷ drop (suc (s .word)) (wordsOf body)
+    words-cons =
+        let l = length-words (jobOf 1 body) in
+        let k : s .word < length (wordsOf body) = omega (arith, l, f .items, s .index, h .within) in
+        let i : s .word < length (drop 10 body) / 2 = omega (arith, length-drop 10 body, l) in
+        let e = getD-low16 (drop 10 body) (s .word) i ∙ le16-drop 10 body (2 * s .word)
+        ∙ ap (le16 body) (sym (s .index)) ∙ sym (h .bytes) in
+        drop-cons (wordsOf body) (s .word) 0 k ∙ ap (λ (x : ℕ). x ∷ drop (suc (s .word)) (wordsOf body)) e
+
+    turn : goesOn g end 0 (wordsOf body)
+        ≡ cond (ltb out n) (passes (numberOf g (s .position)) end (numberOf g (s .position + out)))
+        (goesOn g end (s .position + n) (drop (suc (s .word)) (wordsOf body)))
     unfolding goesOn
-    ended h =
-        let k : length (wordsOf body) ≤ s .word = omega (arith, length-words (jobOf 1 body), s .index) in
-        sym (s .same) ∙ (rw (drop-of-length-le (wordsOf body) k))
+    turn = sym (s .same) ∙ (rw (words-cons, h .covers))
 
-    -- the word at hand, and how many positions it covers
-    module _ (h : at < length body) (w n : ℕ) (e : w ≡ le16 body at) (c : n ≡ coversOf w) where
-      abbrev out : ℕ
-      out = outsideAt g (s .position) w
+    next : (rest : ℕ) → rest ≡ left - n → n ≤ out → Passing g end body rest ((p + n) % 65536) (at + 2)
+    next rest e k =
+        record {
+          word = suc (s .word);
+          position = s .position + n;
+          index = omega (arith, s .index);
+          inside = omega (arith, s .inside);
+          circle = rw (s .circle) (mod-add-mod (s .position) 65536 n);
+          same = sym (turn ∙ (rw (le-ltb _ _ k)));
+        }
 
-      words-cons : drop (s .word) (wordsOf body) ≡ w ∷ drop (suc (s .word)) (wordsOf body)
-      words-cons =
-          let l = length-words (jobOf 1 body) in
-          let k : s .word < length (wordsOf body) = omega (arith, l, f .items, s .index) in
-          let i : s .word < length (drop 10 body) / 2 = omega (arith, length-drop 10 body, l) in
-          let d = getD-low16 (drop 10 body) (s .word) i ∙ le16-drop 10 body (2 * s .word)
-          ∙ ap (le16 body) (sym (s .index)) ∙ sym e in
-          drop-cons (wordsOf body) (s .word) 0 k
-          ∙ ap (λ (x : ℕ). x ∷ drop (suc (s .word)) (wordsOf body)) d
+    pub next-clear : n ≤ left → Passing g end body (left - n) ((p + n) % 65536) (at + 2)
+    next-clear k = let c = h .covers in
+        next (left - n) refl (rw c (outside-clear g (s .position) w (s .inside) (rw (← c) k)))
 
-      turn : goesOn g end 0 (wordsOf body)
-          ≡ cond (ltb out n) (passes (numberOf g (s .position)) end (numberOf g (s .position + out)))
-          (goesOn g end (s .position + n) (drop (suc (s .word)) (wordsOf body)))
-      unfolding goesOn
-      turn = sym (s .same) ∙ (rw (words-cons, c))
+    module _ {r : ℕ} (o : FirstOne w left r) where
+      pub next-none : left < n → n ≤ r → Passing g end body 0 ((p + n) % 65536) (at + 2)
+      next-none i k = let c = h .covers in
+          next 0 (omega arith) (rw c (outside-none g (s .position) w (s .inside) o (rw (← c) k)))
 
-      next : n ≤ out → Passing g end body (left - n) ((p + n) % 65536) (at + 2)
-      next k =
-          record {
-            word = suc (s .word);
-            position = s .position + n;
-            index = omega (arith, s .index);
-            inside = omega (arith, s .inside);
-            circle = rw (s .circle) (mod-add-mod (s .position) 65536 n);
-            same = sym (turn ∙ (rw (le-ltb _ _ k)));
-          }
-
-      pub next-clear : n ≤ left → Passing g end body (left - n) ((p + n) % 65536) (at + 2)
-      next-clear k = next (rw c (outside-clear g (s .position) w left (s .inside) (rw (← c) k)))
-
-      module _ (r : ℕ) (o : FirstOne w left r) (k : left < n) where
-        pub next-none : n ≤ r → Passing g end body (left - n) ((p + n) % 65536) (at + 2)
-        next-none i =
-            next (rw c (outside-none g (s .position) w left (s .inside) r o (rw (← c) k) (rw (← c) i)))
-
-        pub found : r < n → passes (numberOf g p) end (numberOf g (p + r)) ≡ goesOn g end 0 (wordsOf body)
-        found i =
-            let a : numberOf g p ≡ numberOf g (s .position) =
-            rw (s .circle) (simp add-zero at (numberOf-circle g (s .position) 0)) in
-            let b : numberOf g (p + r) ≡ numberOf g (s .position + r) =
-            rw (s .circle) (numberOf-circle g (s .position) r) in
-            let d = outside-first g (s .position) w left (s .inside) r o (rw (← c) k) (rw (← c) i) in
-            sym (turn ∙ (rw (d, lt-ltb _ _ i, a, b)))
+      pub found : r < n → passes (numberOf g p) end (numberOf g (p + r)) ≡ goesOn g end 0 (wordsOf body)
+      found k =
+          let a : numberOf g p ≡ numberOf g (s .position) =
+          rw (s .circle) (simp add-zero at (numberOf-circle g (s .position) 0)) in
+          let b : numberOf g (p + r) ≡ numberOf g (s .position + r) =
+          rw (s .circle) (numberOf-circle g (s .position) r) in
+          let e = outside-first g (s .position) w (s .inside) o (rw (← h .covers) k) in
+          sym (turn ∙ (rw (e, lt-ltb _ _ k, a, b)))

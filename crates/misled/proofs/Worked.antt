@@ -7,7 +7,7 @@
 use Prim.Native.Nat.{ℕ, _*_, _/_, _%_}
 use mathlib.Core.Path.{_≡_, refl}
 use mathlib.Core.Bool.{Bool, true, false}
-use mathlib.Core.List.{List, [], _∷_, _++_}
+use mathlib.Core.List.{List, [], _∷_}
 use lib.ListN.{replicate}
 use Rattle.def_wire.specs.Block.{rleOf, rangedOf, kindOf}
 use Rattle.def_standard.specs.Chunks.{valuesIn}
@@ -38,10 +38,6 @@ pub record Words : Type 0 where
   pub near-the-top : loss 65530 65531 0 (49408 ∷ []) ≡ true
   -- two positions on the circle, and a third one on the first's number
   pub around : (loss 0 0 15 (16387 ∷ []) ≡ true) × (loss 0 40000 15 (16387 ∷ []) ≡ true)
-  -- 65,536 positions inside, and one more
-  pub whole-circle :
-      (loss 5 5 0 (32767 ∷ 32767 ∷ 32767 ∷ 32767 ∷ 16388 ∷ 16385 ∷ []) ≡ true)
-      × (loss 5 5 0 (32767 ∷ 32767 ∷ 32767 ∷ 32767 ∷ 16389 ∷ []) ≡ false)
 
 pub words-hold : Words
 unfolding rleOf rangedOf kindOf valuesIn rangeOf offsetOf inside numberOf passes pairLow isBlockJob outsideFrom goesOn
@@ -51,7 +47,6 @@ words-hold =
       of-two = (refl, refl, refl, refl);
       near-the-top = refl;
       around = (refl, refl);
-      whole-circle = (refl, refl);
     }
 
 -- a record of one time in a range of two, and of two, with so many bytes behind the block

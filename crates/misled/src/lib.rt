@@ -2,6 +2,7 @@
 // of how many bytes stand behind its block. Nothing is laid out, and words are passed once, not position by position.
 ghost use mathlib.Core.Path.{_≡_};
 ghost use Prim.Native.Nat.{_≤_, _<_};
+ghost use lib.Count.{leadingZeros};
 ghost use Rattle.def_standard.specs.Chunks.{coversOf};
 ghost use Rattle.def_jobs.specs.Jobs.{le16, jobFields, jobWords};
 ghost use Rattle.jobs.specs.Sizes.{jobOf};
@@ -27,6 +28,13 @@ fn fields_of(body: &[u8]) -> Fields
     }
 }
 
+// The zeros in front of a number's highest one, in 32 bits.
+fn zeros_in_front(v: u32) -> usize
+    ensures { λ r. ⌜ (r ≡ leadingZeros 32 v) × (r ≤ 32) ⌝ }
+{
+    u32::leading_zeros(v) as usize
+}
+
 // The first place of a word, from one on, that has value one; a place past its last where none has.
 fn one_from(w: u16, place: usize) -> usize
     requires { ⌜ place < coversOf w ⌝ }
@@ -38,7 +46,7 @@ fn one_from(w: u16, place: usize) -> usize
     if w < 0x8000 {
         return place;
     }
-    place + u32::leading_zeros((w as u32) << (17 + place)) as usize
+    place + zeros_in_front((w as u32) << (17 + place))
 }
 
 // Types 1 and 2: whether the crate's list goes on past the range. `left` positions are still inside, and `p` is the
@@ -59,8 +67,10 @@ fn goes_on(body: &[u8], g: Range, end: u16) -> bool
                 let start = range::number_at(g, p as usize);
                 return range::passes(start, end, range::number_at(g, p as usize + q));
             }
+            left = 0;
+        } else {
+            left -= covered as usize;
         }
-        left = utils::above(left, covered as usize);
         p = std::num::wrapping_add_u16(p, covered);
         at += 2;
     }

@@ -1,6 +1,5 @@
 -- `misled::misled_echoes` meets its contract.
 use borrow.Author.Tests.{eq-eqb, ne-eqb}
-use borrow.Author.Needs.{needs}
 use Rattle.misled.specs.Misled.{misledEchoes}
 use Rattle.misled.proofs.misled_echoes.Statement.{statement}
 use Rattle.misled.proofs.misled_echoes.Tie as tie
