@@ -318,6 +318,49 @@ pub fn writing(t: &mut Table) {
     refused_lists(t, &many);
 }
 
+/// Bar for careful writing against making the builder and writing.
+const MADE_CAREFULLY: f64 = 0.5;
+
+/// Careful writing: the bytes that the Rust writes of the same records with the careful layout's zero words, against
+/// making that builder and writing; and beside it plain writing of the same list.
+pub fn careful(t: &mut Table) {
+    t.heading("careful writing");
+    let many: Vec<_> = (0..31).map(|_| jobs::words(1, &mixed(100))).collect();
+    // begin = end = 0: 65,536 positions are inside. Runs of three cross the end within a word, which an old reader
+    // refuses; of words without ones all are looked at
+    let runs = [jobs::words_of(1, 0, 0, &vec![16387; 131_060])];
+    let still = [jobs::words_of(1, 0, 0, &vec![1; 131_060])];
+    let times = [jobs::times(&vec![7; 65_000])];
+    for (name, records) in [
+        ("10 small blocks", &jobs::ten_careful()[..]),
+        ("31 blocks of 100 words", &many),
+        ("262,144 bytes of runs", &runs),
+        ("262,144 bytes of words without ones", &still),
+        ("260,020 bytes of times", &times),
+    ] {
+        let (l, same) = (list(records), list(&jobs::as_careful(records)));
+        let ready = jobs::builder(&same).unwrap();
+        let size = ready.calculate_size().unwrap();
+        let (mut out, mut theirs) = (vec![0xee; size], vec![0xee; size]);
+        let a = ours::write_careful(&l, &mut out);
+        assert_eq!((a.code, a.first as usize), (0, size), "{name}");
+        assert_eq!(jobs::written(&ready, &mut theirs).unwrap(), size);
+        assert_eq!(out, theirs, "{name}: the same bytes");
+        let p = pair(|| go(ours::write_careful(bb(&l), bb(&mut out))), || go(jobs::made_and_written(bb(&same), bb(&mut theirs))));
+        t.row(&format!("{name}, against making an XrBuilder and writing"), p, MADE_CAREFULLY);
+        let p = pair(|| go(ours::write_careful(bb(&l), bb(&mut out))), || go(ours::write_plain(bb(&l), bb(&mut theirs))));
+        t.note(&format!("{name}, against plain writing"), p);
+    }
+    // a misled reader would list 2,147,172,363 numbers
+    let long = list(&[jobs::words_of(1, 0, 65535, &vec![32767; 131_060])]);
+    let mut out = vec![0xee; 300_000];
+    let mut theirs = out.clone();
+    assert_eq!(ours::write_careful(&long, &mut out).code, 15);
+    assert!(out.iter().all(|&x| x == 0xee), "nothing was written by a refused call");
+    let p = pair(|| go(ours::write_careful(bb(&long), bb(&mut out))), || go(ours::write_plain(bb(&long), bb(&mut theirs))));
+    t.note("15: 131,060 long runs, against plain writing", p);
+}
+
 fn refused_lists(t: &mut Table, many: &[Vec<u8>]) {
     let mut out = vec![0xee; 300_000];
     let mut theirs = out.clone();

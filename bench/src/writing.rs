@@ -21,22 +21,31 @@ pub fn header(padding: u16) -> Vec<u8> {
     record(0, &body)
 }
 
-fn fields() -> Vec<u8> {
+/// SSRC 7, begin, end, thinning 0.
+fn fields(begin: u16, end: u16) -> Vec<u8> {
     let mut body = vec![7, 0, 0, 0];
-    for x in [10u16, 65000, 0] {
+    for x in [begin, end, 0] {
         body.extend_from_slice(&x.to_le_bytes());
     }
     body
 }
 
 pub fn words(kind: u16, words: &[u16]) -> Vec<u8> {
-    let mut body = fields();
+    words_of(kind, 10, 65000, words)
+}
+
+pub fn words_of(kind: u16, begin: u16, end: u16, words: &[u16]) -> Vec<u8> {
+    let mut body = fields(begin, end);
     words.iter().for_each(|w| body.extend_from_slice(&w.to_le_bytes()));
     record(kind, &body)
 }
 
 pub fn times(times: &[u32]) -> Vec<u8> {
-    let mut body = fields();
+    times_of(10, 65000, times)
+}
+
+fn times_of(begin: u16, end: u16, times: &[u32]) -> Vec<u8> {
+    let mut body = fields(begin, end);
     times.iter().for_each(|t| body.extend_from_slice(&t.to_le_bytes()));
     record(3, &body)
 }
@@ -61,6 +70,28 @@ pub fn ten() -> Vec<Vec<u8>> {
     (0..2)
         .flat_map(|_| [words(1, &[16386, 32770]), words(2, &[3, 16385, 49152]), times(&[1, 2]), clock(), echoes(1)])
         .collect()
+}
+
+/// Ten small blocks of every kind that mislead no old reader: times that fill their range, and entries that the crate
+/// refuses.
+pub fn ten_careful() -> Vec<Vec<u8>> {
+    (0..2)
+        .flat_map(|_| {
+            [words(1, &[16386, 32770]), words(2, &[3, 16385, 49152]), times_of(10, 12, &[1, 2]), clock(), echoes(2)]
+        })
+        .collect()
+}
+
+/// The records as the careful layout has them: an even count of words whose last is not 0 with two zero words more.
+/// (An odd count's one is the builder's own.)
+pub fn as_careful(records: &[Vec<u8>]) -> Vec<Vec<u8>> {
+    let made = |r: &Vec<u8>| match u16_at(r, 4) {
+        1 | 2 if r.len() > 16 && (r.len() - 16) % 4 == 0 && u16_at(r, r.len() - 2) != 0 => {
+            record(u16_at(r, 4), &[&r[6..], &[0; 4]].concat())
+        }
+        _ => r.clone(),
+    };
+    records.iter().map(made).collect()
 }
 
 fn u16_at(s: &[u8], at: usize) -> u16 {
