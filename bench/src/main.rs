@@ -20,7 +20,7 @@ const USAGE: &str = "bench/run [GROUP ..]: times the named groups of rows, or al
 groups: packet numbers others longest refusals growth writing careful
 exit status: 0 every row is at or below its bar; 1 a row is above it; 2 bad usage; 101 an answer differs from the Rust's";
 
-const GROUPS: [(&str, fn(&mut Table)); 7] = [
+const GROUPS: [(&str, fn(&mut Table)); 8] = [
     ("packet", rows::packet),
     ("numbers", rows::numbers),
     ("others", rows::others),
@@ -28,7 +28,7 @@ const GROUPS: [(&str, fn(&mut Table)); 7] = [
     ("refusals", rows::refusals),
     ("growth", rows::growth),
     ("writing", rows::writing),
-    ("careful", rows::careful),
+    ("careful", rows::careful_writing),
 ];
 
 fn main() {

@@ -323,7 +323,7 @@ const MADE_CAREFULLY: f64 = 0.5;
 
 /// Careful writing: the bytes that the Rust writes of the same records with the careful layout's zero words, against
 /// making that builder and writing; and beside it plain writing of the same list.
-pub fn careful(t: &mut Table) {
+pub fn careful_writing(t: &mut Table) {
     t.heading("careful writing");
     let many: Vec<_> = (0..31).map(|_| jobs::words(1, &mixed(100))).collect();
     // begin = end = 0: 65,536 positions are inside. Runs of three cross the end within a word, which an old reader
