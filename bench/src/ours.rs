@@ -57,6 +57,7 @@ extern "C" {
     ) -> Flat;
     fn xr_chunk(kind: u8, value: u32, out: *mut u8, m: usize) -> Flat;
     fn xr_write_plain(list: *const u8, n: usize, out: *mut u8, m: usize) -> Flat;
+    fn xr_write_careful(list: *const u8, n: usize, out: *mut u8, m: usize) -> Flat;
     fn xr_cursor(
         s: *const u8, n: usize, k: usize, t: u8, word: usize, place: usize, position: usize,
         budget: usize, out: *mut u16, m: usize,
@@ -144,4 +145,11 @@ pub fn cursor(
 #[inline]
 pub fn write_plain(list: &[u8], out: &mut [u8]) -> Flat {
     unsafe { xr_write_plain(list.as_ptr(), list.len(), out.as_mut_ptr(), out.len()) }
+}
+
+/// No row times it.
+#[allow(dead_code)]
+#[inline]
+pub fn write_careful(list: &[u8], out: &mut [u8]) -> Flat {
+    unsafe { xr_write_careful(list.as_ptr(), list.len(), out.as_mut_ptr(), out.len()) }
 }
