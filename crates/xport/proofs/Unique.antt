@@ -14,6 +14,7 @@ use Rattle.xport.proofs.xr_pairs.Reads as xr-pairs
 use Rattle.xport.proofs.xr_entries.Reads as xr-entries
 use Rattle.xport.proofs.xr_chunk.Reads as xr-chunk
 use Rattle.xport.proofs.xr_write_plain.Reads as xr-write-plain
+use Rattle.xport.proofs.xr_write_careful.Reads as xr-write-careful
 use Rattle.xport.proofs.xr_cursor.Reads as xr-cursor
 
 pub xr-count-unique : (κs : Lfts 1) → Fixes (xr-count.Post κs) (λ r s. r)
@@ -78,6 +79,12 @@ xr-write-plain-unique κs a r₁ r₂ s₁ s₂ p q = p .answer ∙ sym (q .answ
 
 pub xr-write-plain-unique-out : (κs : Lfts 2) → Fixes (xr-write-plain.Post κs) (λ r s. s .1 .0 .now)
 xr-write-plain-unique-out κs a r₁ r₂ s₁ s₂ p q = p .filled ∙ sym (q .filled)
+
+pub xr-write-careful-unique : (κs : Lfts 2) → Fixes (xr-write-careful.Post κs) (λ r s. r)
+xr-write-careful-unique κs a r₁ r₂ s₁ s₂ p q = p .answer ∙ sym (q .answer)
+
+pub xr-write-careful-unique-out : (κs : Lfts 2) → Fixes (xr-write-careful.Post κs) (λ r s. s .1 .0 .now)
+xr-write-careful-unique-out κs a r₁ r₂ s₁ s₂ p q = p .filled ∙ sym (q .filled)
 
 pub xr-cursor-unique : (κs : Lfts 2) → Fixes (xr-cursor.Post κs) (λ r s. r)
 xr-cursor-unique κs a r₁ r₂ s₁ s₂ p q = p .answer ∙ sym (q .answer)

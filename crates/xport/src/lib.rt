@@ -1,6 +1,6 @@
-// The reading questions and plain writing, for Rust and C: each takes numbers and slices and answers numbers. A slice
-// is a pointer and a length. A reading is a number: 0 the standard, anything else the crate's. A packet's blocks are
-// counted from 0.
+// The reading questions, and writing in both layouts, for Rust and C: each takes numbers and slices and answers
+// numbers. A slice is a pointer and a length. A reading is a number: 0 the standard, anything else the crate's. A
+// packet's blocks are counted from 0.
 ghost use mathlib.Core.Path.{_≡_};
 ghost use Rattle.def_wire.specs.Packet.{countOf, locate};
 ghost use Rattle.def_standard.specs.Chunks.{wordBytes};
@@ -135,6 +135,15 @@ pub extern "C" fn xr_write_plain(list: &[u8], out: &mut [u8]) -> Flat
     ensures { λ a. ⌜ FlatListed (packetOf Layout.Plain (now (list .entry))) (now (out .entry)) a (now (out .exit)) ⌝ }
 {
     flat::answer(write::write_plain(list, out))
+}
+
+// Writes the packet of a job list in the careful layout; what was found is its length: 12, 14, 15, 11.
+#[no_mangle]
+pub extern "C" fn xr_write_careful(list: &[u8], out: &mut [u8]) -> Flat
+    ensures { λ a. ⌜ FlatListed (packetOf Layout.Careful (now (list .entry))) (now (out .entry)) a
+        (now (out .exit)) ⌝ }
+{
+    flat::answer(write::write_careful(list, out))
 }
 
 // At most budget steps of the standard number cursor in block k, asked as type t (1 or 2): 1 to 6, 9, 10, 7, 16, 11.
