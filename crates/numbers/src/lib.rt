@@ -33,7 +33,7 @@ pub fn numbers(r: Reading, a: Rle, v: &[u8], out: &mut [u16]) -> Answer
             let f = block::fields_at(v);
             let bytes = word_bytes(r, v);
             match r {
-                Reading::Standard => rle::fill_standard(bytes, range::range_of(f), out),
+                Reading::Standard => rle_standard::fill_standard(bytes, range::range_of(f), out),
                 Reading::Crate => rle::fill_crate(bytes, f.end, f.thinning, f.begin, out),
             }
         }
@@ -46,7 +46,7 @@ pub fn words(r: Reading, a: Rle, v: &[u8], out: &mut [u16]) -> Answer
     ensures { λ n. ⌜ Listed (wordsShown r a (now (v .entry))) (now (out .entry)) n (now (out .exit)) ⌝ }
 {
     match block::check_chunks(r, a, v) {
-        Checked::Fine => rle::fill_words(word_bytes(r, v), out),
+        Checked::Fine => rle_words::fill_words(word_bytes(r, v), out),
         Checked::Unfit(x) => Answer::Refused(x),
     }
 }

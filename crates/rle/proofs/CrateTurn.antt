@@ -22,7 +22,7 @@ use Rattle.rle.specs.Runs.{here}
 use Rattle.ones.proofs.WordLaws.{word-zeros}
 use Rattle.ones.proofs.StopLaws.{stop-zeros}
 use Rattle.rle.proofs.CrateLaws.{crate-nil, crate-cons, length-crate, most-nil, most-cons, most-le}
-use Rattle.rle.proofs.Turn.{words-end, words-cons, Turn, next}
+use Rattle.rle_words.proofs.Turn.{words-end, words-cons, Turn, next}
 
 -- the numbers of one word
 abbrev pub added : ℕ → ℕ → ℕ → ℕ → List ℕ

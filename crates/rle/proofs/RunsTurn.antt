@@ -25,7 +25,7 @@ use Rattle.ones.proofs.WordLaws.{word-ones}
 use Rattle.range.proofs.SequenceLaws.{moved-sequence, sequenceOf-suc}
 use Rattle.ones.proofs.StopLaws.{stop-clear}
 use Rattle.range.proofs.NextLaws.{next-same}
-use Rattle.rle.proofs.Turn.{next}
+use Rattle.rle_words.proofs.Turn.{next}
 use Rattle.rle.proofs.CrateTurn.{turn}
 
 -- the number after a run is where the start moves to

@@ -3,21 +3,8 @@
 use mathlib.Core.Path.{sym, _∙_}
 use contract.Lifetimes.{Lfts}
 use Rattle.laws.proofs.Determined.{Fixes}
-use Rattle.rle.proofs.count_standard.Reads as count-standard
-use Rattle.rle.proofs.fill_standard.Reads as fill-standard
 use Rattle.rle.proofs.count_crate.Reads as count-crate
 use Rattle.rle.proofs.fill_crate.Reads as fill-crate
-use Rattle.rle.proofs.count_words.Reads as count-words
-use Rattle.rle.proofs.fill_words.Reads as fill-words
-
-pub count-standard-unique : (κs : Lfts 1) → Fixes (count-standard.Post κs) (λ r s. r)
-count-standard-unique κs a r₁ r₂ s₁ s₂ p q = p ∙ sym q
-
-pub fill-standard-unique : (κs : Lfts 2) → Fixes (fill-standard.Post κs) (λ r s. r)
-fill-standard-unique κs a r₁ r₂ s₁ s₂ p q = p .answer ∙ sym (q .answer)
-
-pub fill-standard-unique-out : (κs : Lfts 2) → Fixes (fill-standard.Post κs) (λ r s. s .1 .1 .0 .now)
-fill-standard-unique-out κs a r₁ r₂ s₁ s₂ p q = p .filled ∙ sym (q .filled)
 
 pub count-crate-unique : (κs : Lfts 1) → Fixes (count-crate.Post κs) (λ r s. r)
 count-crate-unique κs a r₁ r₂ s₁ s₂ p q = p ∙ sym q
@@ -27,12 +14,3 @@ fill-crate-unique κs a r₁ r₂ s₁ s₂ p q = p .answer ∙ sym (q .answer)
 
 pub fill-crate-unique-out : (κs : Lfts 2) → Fixes (fill-crate.Post κs) (λ r s. s .1 .1 .1 .1 .0 .now)
 fill-crate-unique-out κs a r₁ r₂ s₁ s₂ p q = p .filled ∙ sym (q .filled)
-
-pub count-words-unique : (κs : Lfts 1) → Fixes (count-words.Post κs) (λ r s. r)
-count-words-unique κs a r₁ r₂ s₁ s₂ p q = p ∙ sym q
-
-pub fill-words-unique : (κs : Lfts 2) → Fixes (fill-words.Post κs) (λ r s. r)
-fill-words-unique κs a r₁ r₂ s₁ s₂ p q = p .answer ∙ sym (q .answer)
-
-pub fill-words-unique-out : (κs : Lfts 2) → Fixes (fill-words.Post κs) (λ r s. s .1 .0 .now)
-fill-words-unique-out κs a r₁ r₂ s₁ s₂ p q = p .filled ∙ sym (q .filled)

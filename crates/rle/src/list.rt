@@ -5,39 +5,12 @@ ghost use mathlib.Core.Bool.{_&&_};
 ghost use lib.Dec.{leb, ltb};
 ghost use lib.ListN.{length};
 ghost use Rattle.def_wire.specs.Bytes.{words16};
-ghost use Rattle.def_standard.specs.Standard.{numbersOf};
 ghost use Rattle.def_crate.specs.Crate.{crateNumbersFrom};
 ghost use Rattle.laws.specs.Stores.{Filled};
 ghost use Rattle.range.specs.Steps.{stepOf};
 ghost use Rattle.rle.specs.Most.{mostOf};
 ghost use Rattle.range.specs.Failing.{firstFail};
 ghost use Rattle.rle.specs.Runs.{here, Ran};
-use def_standard::Range;
-
-// Lists the numbers into a slice that has room for them. Port of: rle.rs RleSequenceIter::next; differs: the standard
-// reading.
-pub(crate) fn list_standard(bytes: &[u8], g: Range, out: &mut [u16]) -> usize
-    requires { ⌜ length (numbersOf g (words16 (now bytes))) ≤ length (now out) ⌝ }
-    ensures { λ r. ⌜ Filled (numbersOf g (words16 (now (bytes .entry)))) (now (out .entry)) r (now (out .exit)) ⌝ }
-{
-    let step = range::doubled(1, g.thinning);
-    let mut left = range::inside_count(g);
-    let mut first = g.begin;
-    let mut at: usize = 0;
-    let mut n: usize = 0;
-    while at + 1 < bytes.len() {
-        let w = utils::pair(bytes[at], bytes[at + 1]);
-        n = ones::store_word(out, n, w, left, first, step);
-        let covered = chunk::covers(w);
-        if left <= covered as usize {
-            return n;
-        }
-        left -= covered as usize;
-        first = range::moved_by(covered, g.thinning, first);
-        at += 2;
-    }
-    n
-}
 
 // As many numbers as the words can list, whatever the range.
 pub(crate) fn at_most(bytes: &[u8]) -> usize
@@ -198,21 +171,6 @@ pub(crate) fn list_crate(bytes: &[u8], end: u16, thinning: u8, begin: u16, out: 
             first = ones::next_fail(first, covered, thinning, start, next, end);
             start = next;
         }
-        at += 2;
-    }
-    n
-}
-
-// The words themselves. Port of: rle.rs RleBlockIter::next; differs: which words there are is the caller's.
-pub(crate) fn list_words(bytes: &[u8], out: &mut [u16]) -> usize
-    requires { ⌜ length (words16 (now bytes)) ≤ length (now out) ⌝ }
-    ensures { λ r. ⌜ Filled (words16 (now (bytes .entry))) (now (out .entry)) r (now (out .exit)) ⌝ }
-{
-    let mut at: usize = 0;
-    let mut n: usize = 0;
-    while at + 1 < bytes.len() {
-        out[n] = utils::pair(bytes[at], bytes[at + 1]);
-        n += 1;
         at += 2;
     }
     n

@@ -22,7 +22,7 @@ use Rattle.range.proofs.NextLaws.{next-same}
 use Rattle.ones.specs.Stops.{stopAt}
 use Rattle.rle.specs.Runs.{here}
 use Rattle.ones.proofs.WordLaws.{along-same}
-use Rattle.rle.proofs.Turn.{Turn, fill-room, fill-last, fill-next}
+use Rattle.rle_words.proofs.Turn.{Turn, fill-room, fill-last, fill-next}
 use Rattle.rle.proofs.CrateTurn.{added, here-end, here-zeros, turn}
 use Rattle.rle.proofs.list.list_crate.Statement.{statement}
 use Rattle.rle.proofs.list.list_crate.Tie as tie

@@ -21,7 +21,7 @@ use Rattle.range.proofs.NextLaws.{next-same}
 use Rattle.ones.specs.Stops.{stopAt}
 use Rattle.rle.specs.Runs.{here}
 use Rattle.ones.proofs.WordLaws.{length-ones, along-same}
-use Rattle.rle.proofs.Turn.{Turn, count-room, count-last, count-next}
+use Rattle.rle_words.proofs.Turn.{Turn, count-room, count-last, count-next}
 use Rattle.rle.proofs.CrateTurn.{added, length-here, here-end, here-zeros, turn}
 use Rattle.rle.proofs.list.tally_crate.Statement.{statement}
 use Rattle.rle.proofs.list.tally_crate.Tie as tie

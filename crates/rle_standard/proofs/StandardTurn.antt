@@ -22,7 +22,7 @@ use Rattle.range.specs.Inside.{insideCount}
 use Rattle.range.specs.Steps.{stepOf}
 use Rattle.ones.specs.Along.{along}
 use Rattle.ones.proofs.NumbersLaws.{numbers-nil, numbers-cons, numbers-along, numbers-outside}
-use Rattle.rle.proofs.Turn.{words-end, words-cons, Turn}
+use Rattle.rle_words.proofs.Turn.{words-end, words-cons, Turn}
 
 pub record Standing (g : Range) (left first : ℕ) : Type 0 where
   pub low : left ≤ insideCount g

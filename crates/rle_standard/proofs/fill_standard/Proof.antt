@@ -1,4 +1,4 @@
--- `rle::fill_standard` meets its contract: there is room for all that are inside, or for as many as were counted; else
+-- `rle_standard::fill_standard` meets its contract: there is room for all that are inside, or for as many as were counted; else
 -- it is refused. Assumes nothing.
 use Rattle.ones.proofs.NumbersLaws.{length-numbers}
 use Rattle.laws.proofs.Answering.{listed, full}
@@ -11,8 +11,8 @@ use native.Mathlib.Omega.{arith}
 use mathlib.Core.Logic.{⊎-elim}
 use mathlib.Core.Path.{refl}
 use borrow.Author.Needs.{needs}
-use Rattle.rle.proofs.fill_standard.Statement.{statement}
-use Rattle.rle.proofs.fill_standard.Tie as tie
+use Rattle.rle_standard.proofs.fill_standard.Statement.{statement}
+use Rattle.rle_standard.proofs.fill_standard.Tie as tie
 
 -- there is room: for all that are inside, or for as many as were counted
 room : (c : tie.Joined1) → let a = c .before .before .before .before .args in

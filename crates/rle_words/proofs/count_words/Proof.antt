@@ -1,8 +1,8 @@
--- `rle::count_words` meets its contract: two bytes make a word. Assumes nothing.
+-- `rle_words::count_words` meets its contract: two bytes make a word. Assumes nothing.
 use Rattle.utils.proofs.BytesLaws.{length-pairUp}
 use mathlib.Core.Path.{sym}
-use Rattle.rle.proofs.count_words.Statement.{statement}
-use Rattle.rle.proofs.count_words.Tie as tie
+use Rattle.rle_words.proofs.count_words.Statement.{statement}
+use Rattle.rle_words.proofs.count_words.Tie as tie
 
 returns : tie.Need-returns
 returns c = sym (length-pairUp 256 (c .args .bytes .now))

@@ -1,4 +1,4 @@
--- `rle::fill_words` meets its contract: there is room, or it is refused. Assumes nothing.
+-- `rle_words::fill_words` meets its contract: there is room, or it is refused. Assumes nothing.
 use Rattle.laws.proofs.Answering.{listed, full}
 use Rattle.def_wire.specs.Bytes.{words16}
 use Rattle.def_refusals.specs.Answers.{shown}
@@ -7,8 +7,8 @@ use lib.ListN.{length}
 use Prim.Native.Nat.{_≤_}
 use mathlib.Core.Path.{refl}
 use borrow.Author.Needs.{needs}
-use Rattle.rle.proofs.fill_words.Statement.{statement}
-use Rattle.rle.proofs.fill_words.Tie as tie
+use Rattle.rle_words.proofs.fill_words.Statement.{statement}
+use Rattle.rle_words.proofs.fill_words.Tie as tie
 
 returns : tie.Need-returns
 returns c = let r = c .before .before in

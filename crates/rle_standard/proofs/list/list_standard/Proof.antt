@@ -1,4 +1,4 @@
--- `rle::list::list_standard` meets its contract: the loop fills from the front, with `left` positions still inside.
+-- `rle_standard::list::list_standard` meets its contract: the loop fills from the front, with `left` positions still inside.
 -- Assumes nothing.
 use Prim.Native.Nat.{ℕ, _+_, _-_, _^_, _≤_, _<_}
 use mathlib.Core.List.{List}
@@ -15,11 +15,11 @@ use Rattle.def_standard.specs.Standard.{numbersOf}
 use Rattle.laws.specs.Stores.{Wrote}
 use Rattle.laws.proofs.Filling.{Filling, start, skip, done}
 use Rattle.range.specs.Steps.{stepOf}
-use Rattle.rle.proofs.Turn.{Turn, fill-room, fill-last, fill-next}
-use Rattle.rle.proofs.StandardTurn.{Standing, begin-standing, next-standing}
-use Rattle.rle.proofs.StandardTurn.{here, added, here-start, here-end, turn}
-use Rattle.rle.proofs.list.list_standard.Statement.{statement}
-use Rattle.rle.proofs.list.list_standard.Tie as tie
+use Rattle.rle_words.proofs.Turn.{Turn, fill-room, fill-last, fill-next}
+use Rattle.rle_standard.proofs.StandardTurn.{Standing, begin-standing, next-standing}
+use Rattle.rle_standard.proofs.StandardTurn.{here, added, here-start, here-end, turn}
+use Rattle.rle_standard.proofs.list.list_standard.Statement.{statement}
+use Rattle.rle_standard.proofs.list.list_standard.Tie as tie
 
 abbrev Inv-loop : tie.InvT-loop
 Inv-loop bytes g out₀ step left₀ first₀ at₀ n₀ out left first at n =

@@ -1,4 +1,4 @@
--- `rle::count_standard` meets its contract: what is counted and what is still to be listed make up the whole, for
+-- `rle_standard::count_standard` meets its contract: what is counted and what is still to be listed make up the whole, for
 -- every range with as many positions inside. Assumes nothing.
 use Prim.Native.Nat.{ℕ, _+_, _-_, _≤_, _<_}
 use mathlib.Core.Path.{_≡_, ap, _∙_}
@@ -18,10 +18,10 @@ use Rattle.range.specs.Inside.{insideCount}
 use Rattle.range.proofs.InsideLaws.{inside-count-le}
 use Rattle.ones.proofs.NumbersLaws.{length-numbers}
 use Rattle.ones.proofs.WordLaws.{length-ones}
-use Rattle.rle.proofs.Turn.{Turn, count-room, count-last, count-next}
-use Rattle.rle.proofs.StandardTurn.{here, added, here-start, here-end, count-turn}
-use Rattle.rle.proofs.count_standard.Statement.{statement}
-use Rattle.rle.proofs.count_standard.Tie as tie
+use Rattle.rle_words.proofs.Turn.{Turn, count-room, count-last, count-next}
+use Rattle.rle_standard.proofs.StandardTurn.{here, added, here-start, here-end, count-turn}
+use Rattle.rle_standard.proofs.count_standard.Statement.{statement}
+use Rattle.rle_standard.proofs.count_standard.Tie as tie
 
 -- n are counted of a range that has `left` positions inside from here on
 abbrev Counts : Range → List ℕ → ℕ → ℕ → ℕ → Type 0

@@ -1,13 +1,13 @@
--- `rle::list::list_words` meets its contract: the loop fills from the front. Assumes nothing.
+-- `rle_words::list::list_words` meets its contract: the loop fills from the front. Assumes nothing.
 use Prim.Native.Nat.{_-_, _≤_}
 use native.Mathlib.Omega.{arith}
 use borrow.Author.Needs.{needs}
 use lib.ListN.{length, drop}
 use Rattle.def_wire.specs.Bytes.{words16}
 use Rattle.laws.proofs.Filling.{Filling, start, within, put, done}
-use Rattle.rle.proofs.Turn.{words-cons, words-end}
-use Rattle.rle.proofs.list.list_words.Statement.{statement}
-use Rattle.rle.proofs.list.list_words.Tie as tie
+use Rattle.rle_words.proofs.Turn.{words-cons, words-end}
+use Rattle.rle_words.proofs.list_words.Statement.{statement}
+use Rattle.rle_words.proofs.list_words.Tie as tie
 
 abbrev Inv-loop : tie.InvT-loop
 Inv-loop bytes out₀ at₀ n₀ out at n =
