@@ -1,6 +1,7 @@
 // The packet of a job list, into a lent buffer (RULES, "Job lists and writing"). One pass judges and sizes, careful
-// writing's second one looks for what misleads, and the last one writes; each byte is written once. Port of: xr/mod.rs XrBuilder with RtcpPacketWriterExt::write_into; differs: a job list in
-// place of builders, padding is sized and written, and 12, 14, 15 and 11 are judged here.
+// writing's second one looks for what misleads, and the last one writes; each byte is written once. Port of: xr/mod.rs
+// XrBuilder with RtcpPacketWriterExt::write_into; differs: a job list in place of builders, padding is sized and
+// written, and 12, 14, 15 and 11 are judged here.
 ghost use mathlib.Core.Path.{_≡_};
 ghost use mathlib.Core.List.{_++_};
 ghost use Prim.Native.Nat.{_+_, _-_, _≤_};
