@@ -15,12 +15,12 @@ use Rattle.def_jobs.specs.Jobs.{le16, le32, le64, low16, jobWords, jobTimes}
 use Rattle.def_jobs.specs.Layout.{head, withFields, wordsBytes, zerosBehind}
 use Rattle.utils.proofs.BytesLaws.{Bytes}
 use Rattle.utils.proofs.StoresLaws.{four-low}
-use Rattle.jobs.specs.Sizes.{jobOf}
-use Rattle.jobs.proofs.ZerosLaws.{length-words, length-times, zeros-most}
-use Rattle.jobs.proofs.LayoutLaws.{length-bytesOf}
+use Rattle.jobs.specs.Places.{jobOf}
+use Rattle.block_size.proofs.ZerosLaws.{length-words, length-times, zeros-most}
+use Rattle.block_size.proofs.LayoutLaws.{length-bytesOf}
 use Rattle.swap.specs.Swapped.{swapped16, swapped32}
 use Rattle.builder.specs.Blocks.{fieldsIn, fieldsBytes, Fit, wordsBlock, timesBlock, clockBlock}
-use Rattle.builder.proofs.FrameLaws.{piece, told}
+use Rattle.frame.proofs.FrameLaws.{piece, told}
 
 -- the thinning's low byte is the whole thinning
 thinning-low : (body : List ℕ) → fieldsIn body .thinning ≤ 15 → byteAt body 8 ≡ fieldsIn body .thinning

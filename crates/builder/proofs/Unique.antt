@@ -3,21 +3,7 @@
 use mathlib.Core.Path.{sym, _∙_}
 use contract.Lifetimes.{Lfts}
 use Rattle.laws.proofs.Determined.{Fixes}
-use Rattle.builder.proofs.write_header.Reads as write-header
-use Rattle.builder.proofs.write_padding.Reads as write-padding
 use Rattle.builder.proofs.write_block.Reads as write-block
-
-pub write-header-unique : (κs : Lfts 1) → Fixes (write-header.Post κs) (λ r s. r)
-write-header-unique κs a r₁ r₂ s₁ s₂ p q = p .past ∙ sym (q .past)
-
-pub write-header-unique-out : (κs : Lfts 1) → Fixes (write-header.Post κs) (λ r s. s .0 .now)
-write-header-unique-out κs a r₁ r₂ s₁ s₂ p q = p .stored ∙ sym (q .stored)
-
-pub write-padding-unique : (κs : Lfts 1) → Fixes (write-padding.Post κs) (λ r s. r)
-write-padding-unique κs a r₁ r₂ s₁ s₂ p q = p .past ∙ sym (q .past)
-
-pub write-padding-unique-out : (κs : Lfts 1) → Fixes (write-padding.Post κs) (λ r s. s .0 .now)
-write-padding-unique-out κs a r₁ r₂ s₁ s₂ p q = p .stored ∙ sym (q .stored)
 
 pub write-block-unique : (κs : Lfts 2) → Fixes (write-block.Post κs) (λ r s. r)
 write-block-unique κs a r₁ r₂ s₁ s₂ p q = p .past ∙ sym (q .past)

@@ -13,7 +13,7 @@ use Rattle.def_wire.specs.Block.{rleType, receiptType, clockType, echoType}
 use Rattle.def_jobs.specs.declared.Layout.{Layout}
 use Rattle.def_jobs.specs.Jobs.{jobFields, low16, low32, le64}
 use Rattle.def_jobs.specs.Layout.{bytesOf, head, withFields, wordsBytes}
-use Rattle.jobs.specs.Sizes.{jobOf}
+use Rattle.jobs.specs.Places.{jobOf}
 
 abbrev pub fieldsIn : List ℕ → Fields
 fieldsIn body = jobFields (jobOf 1 body)

@@ -1,16 +1,14 @@
-// The bytes of one block, and of a packet's frame, into a lent buffer (RFC 3611, 2 and 4; RULES, "Job lists and
-// writing"). Port of: the `write_into_unchecked` of xr/mod.rs, rle.rs, packet_receipt_time.rs,
-// receiver_reference_time.rs and dlrr.rs; differs: a block's numbers come from a record's little-endian body.
+// The bytes of one block into a lent buffer (RFC 3611, 4; RULES, "Job lists and writing"). Port of: the
+// `write_into_unchecked` of rle.rs, packet_receipt_time.rs, receiver_reference_time.rs and dlrr.rs; differs: a block's
+// numbers come from a record's little-endian body.
 ghost use mathlib.Core.Path.{_≡_};
 ghost use mathlib.Core.Bool.{true};
-ghost use mathlib.Core.List.{_∷_, _++_};
-ghost use Prim.Native.Nat.{_+_, _-_, _/_, _≤_};
-ghost use lib.ListN.{length, replicate};
-ghost use Rattle.def_wire.specs.Bytes.{two, four};
+ghost use Prim.Native.Nat.{_+_, _≤_};
+ghost use lib.ListN.{length};
 ghost use Rattle.laws.specs.Stores.{Wrote};
 ghost use Rattle.def_jobs.specs.Jobs.{isBlockJob};
-ghost use Rattle.def_jobs.specs.Layout.{head, firstByte, paddingBytes, blockBytes};
-ghost use Rattle.jobs.specs.Sizes.{jobOf};
+ghost use Rattle.def_jobs.specs.Layout.{head, blockBytes};
+ghost use Rattle.jobs.specs.Places.{jobOf};
 ghost use Rattle.builder.specs.Blocks.{fieldsIn, fieldsBytes, Fit, wordsBlock, timesBlock, clockBlock};
 ghost use Rattle.builder.specs.Blocks.{echoesBlock};
 use def_jobs::Layout;
@@ -21,55 +19,6 @@ use def_wire::Rle;
 use records::DelaySinceLastReceiverReport;
 use records::PacketReceiptTimes;
 use records::ReceiverReferenceTime;
-use xr::Xr;
-
-// Bit P of the first byte, beside version 2 (RFC 3550, 6.4.1).
-fn first_byte(padding: usize) -> u8
-    ensures { λ r. ⌜ r ≡ firstByte padding ⌝ }
-{
-    if padding == 0 { 128 } else { 160 }
-}
-
-// A packet's first eight bytes: `size` bytes in all, of which `padding` stand behind the blocks.
-// Port of: mod.rs XrBuilder::write_into_unchecked; differs: padding sets P, and a buffer of less than eight bytes takes
-// what there is room for.
-pub fn write_header(out: &mut [u8], padding: usize, size: usize, sender: u32) -> usize
-    ensures { λ r. ⌜ Wrote (now (out .entry)) 0
-        (firstByte padding ∷ 207 ∷ two ((size - 4) / 4) ++ four sender) (now (out .exit)) r ⌝ }
-{
-    utils::put16(out, 0, utils::pair(first_byte(padding), Xr::PACKET_TYPE));
-    utils::put16(out, 2, (utils::above(size, 4) / 4 % 65536) as u16);
-    utils::put32(out, 4, sender);
-    8
-}
-
-// So many zero bytes.
-fn zero_bytes(out: &mut [u8], at: usize, count: usize) -> usize
-    requires { ⌜ at + count ≤ length (now out) ⌝ }
-    ensures { λ r. ⌜ Wrote (now (out .entry)) at (replicate count 0) (now (out .exit)) r ⌝ }
-{
-    let end = at + count;
-    let mut n = at;
-    while n < end {
-        out[n] = 0;
-        n += 1;
-    }
-    n
-}
-
-// The padding of so many bytes: zeros, and their count last (RFC 3550, 6.4.1). The Rust's XrBuilder has none.
-pub fn write_padding(out: &mut [u8], at: usize, n: usize) -> usize
-    requires { ⌜ (n ≤ 252) × (at + n ≤ length (now out)) ⌝ }
-    ensures { λ r. ⌜ Wrote (now (out .entry)) at (paddingBytes n) (now (out .exit)) r ⌝ }
-{
-    if n == 0 {
-        return at;
-    }
-    let count = n as u8;
-    let last = zero_bytes(out, at, n - 1);
-    out[last] = count;
-    last + 1
-}
 
 // A block's four header bytes, with so many bytes behind them (RFC 3611, 3).
 fn put_head(out: &mut [u8], at: usize, kind: u8, specific: u8, behind: usize) -> usize
@@ -105,10 +54,10 @@ fn write_words(layout: Layout, a: Rle, body: &[u8], out: &mut [u8], at: usize) -
     requires { ⌜ Fit (now body) 2 × (at + length (wordsBlock a layout (now body)) ≤ length (now out)) ⌝ }
     ensures { λ r. ⌜ Wrote (now (out .entry)) at (wordsBlock a layout (now (body .entry))) (now (out .exit)) r ⌝ }
 {
-    let zeros = 2 * jobs::zeros_behind(layout, body);
+    let zeros = 2 * block_size::zeros_behind(layout, body);
     let words = put_fields(out, at, records::rle_type(a), body, body.len() - 2 + zeros);
     let end = swap::swap16(body, 10, out, words);
-    zero_bytes(out, end, zeros)
+    frame::zero_bytes(out, end, zeros)
 }
 
 // A block of type 3: fields and times. Port of: packet_receipt_time.rs PacketReceiptTimesBuilder.

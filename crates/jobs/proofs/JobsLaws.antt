@@ -1,4 +1,4 @@
--- The laws of a job list's records: the one place that unfolds `jobsFrom` and `jobsFault`. Assumes nothing.
+-- The laws of a job list's records. Assumes nothing.
 --     jobs-enough             fuel does not matter once there is enough
 --     jobs-cut, jobs-next     the records of a list, where the first one is cut and where it is whole
 --     behind-none, ..         the records behind another one
@@ -11,16 +11,15 @@ use mathlib.Core.List.{List, [], _∷_}
 use native.Mathlib.Omega.{arith}
 use lib.ListN.{length, drop, length-drop}
 use lib.Dec.{leb, lit<}
-use borrow.Author.Tests.{le-leb, lt-leb, leb-true, leb-false, ne-eqb}
+use borrow.Author.Tests.{le-leb, lt-leb, leb-true, leb-false}
 use Rattle.laws.proofs.Tests.{either, and-true}
 use Rattle.def_refusals.specs.declared.Refusal.{Refusal}
 use Rattle.def_refusals.specs.declared.Refusal.the-variants.{BadRecord}
 use Rattle.def_refusals.specs.declared.Checked.the-variants.{Fine, Unfit}
-use Rattle.def_wire.specs.declared.KindOr.the-variants.{NoKind}
-use Rattle.def_wire.specs.Block.{rleOf, rangedOf, kindOf}
 use Rattle.def_jobs.specs.Jobs.{Job, le32, isWhole, jobAt, cutJob, jobsFrom, jobsOf, isHeaderJob, isBlockJob, isGood}
 use Rattle.def_jobs.specs.Jobs.{jobsFault}
-use Rattle.jobs.specs.Sizes.{jobsBehind}
+use Rattle.jobs.specs.Places.{jobsBehind}
+use Rattle.jobs.proofs.KindLaws.{kindOf-none}
 
 -- a whole record has its six bytes and its body
 pub record Whole (s : List ℕ) : Type 0 where
@@ -90,18 +89,6 @@ jobs-next s w =
     ∙ sym (behind-some rest (omega arith))))
 
 -- ---- 12
-
--- no kind over 5
-pub kindOf-none : (t : ℕ) → 5 < t → kindOf t ≡ NoKind
-unfolding kindOf rangedOf rleOf
-kindOf-none t h =
-    rw (
-      ne-eqb t 1 (λ e. omega arith),
-      ne-eqb t 2 (λ e. omega arith),
-      ne-eqb t 3 (λ e. omega arith),
-      ne-eqb t 4 (λ e. omega arith),
-      ne-eqb t 5 (λ e. omega arith),
-    )
 
 -- the first of some records is good, or it is not
 pub fault-good : (i : ℕ) (j : Job) (js : List Job) → isGood i j ≡ true → jobsFault i (j ∷ js) ≡ jobsFault (suc i) js

@@ -2,7 +2,7 @@
 --     whole-*              whether it is whole
 --     body-*               its body, as a part of the list
 --     next-*, behind-next  the next record's place, and the records from there on
---     judged-*, header-*   the record judged, as it was read
+--     job-at               the record as it was read
 use Prim.Native.Nat.{ℕ, _+_, _-_, _≤_, _<_, min}
 use mathlib.Core.Path.{_≡_, sym, ap, ap₂, _∙_}
 use mathlib.Core.Bool.{true, false}
@@ -15,10 +15,9 @@ use borrow.Author.Tests.{le-leb, lt-leb, leb-true, leb-false}
 use Rattle.laws.proofs.Tests.{either}
 use Rattle.utils.proofs.PartLaws.{drop-cut}
 use Rattle.def_wire.specs.Packet.{startFrom}
-use Rattle.def_jobs.specs.declared.Layout.{Layout}
-use Rattle.def_jobs.specs.Jobs.{le16, le32, isWhole, jobAt, isHeaderJob}
-use Rattle.jobs.specs.Sizes.{jobOf, nextJob, isHeaderAt, judgedSize, judgedFirst, jobsBehind}
-use Rattle.jobs.proofs.LowLaws.{le32-here}
+use Rattle.def_jobs.specs.Jobs.{le16, le32, isWhole, jobAt}
+use Rattle.little_endian.proofs.LowLaws.{le32-here}
+use Rattle.jobs.specs.Places.{jobOf, nextJob, jobsBehind}
 use Rattle.jobs.proofs.JobsLaws.{whole-is, behind-some, jobs-next}
 
 -- so many bytes behind the first six
@@ -56,21 +55,8 @@ whole-within list at e =
     let w = whole-is (drop at list) e in omega (arith, w .six, w .body, le32-here at list, length-drop at list)
 
 -- the record as it was read
-module _ (s : List ℕ) (k : ℕ) (b : List ℕ) (e : k ≡ le16 s 4) (f : b ≡ jobAt s .body) where
-  pub job-at : jobOf k b ≡ jobAt s
-  job-at = ap₂ jobOf e f
-
-  pub judged-at : (layout : Layout) → isWhole s ≡ true → judgedSize layout (jobOf k b) ≡ judgedFirst layout s
-  judged-at layout w = ap (judgedSize layout) job-at ∙ (rw w)
-
-  pub header-at : isWhole s ≡ true → isHeaderJob (jobOf k b) ≡ isHeaderAt s
-  header-at w = ap isHeaderJob job-at ∙ (rw w)
-
-pub judged-cut : (s : List ℕ) (layout : Layout) → isWhole s ≡ false → 0 ≡ judgedFirst layout s
-judged-cut s layout w = rw w
-
-pub header-cut : (s : List ℕ) → isWhole s ≡ false → false ≡ isHeaderAt s
-header-cut s w = rw w
+pub job-at : (s : List ℕ) (k : ℕ) (b : List ℕ) → k ≡ le16 s 4 → b ≡ jobAt s .body → jobOf k b ≡ jobAt s
+job-at s k b e f = ap₂ jobOf e f
 
 -- the place behind a whole record
 pub next-whole : (list : List ℕ) (at : ℕ) → isWhole (drop at list) ≡ true

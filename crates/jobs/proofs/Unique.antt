@@ -3,9 +3,6 @@
 use mathlib.Core.Path.{sym, _∙_}
 use contract.Lifetimes.{Lfts}
 use Rattle.laws.proofs.Determined.{Fixes}
-use Rattle.jobs.proofs.u16_from_le_bytes.Reads as u16-from-le-bytes
-use Rattle.jobs.proofs.u32_from_le_bytes.Reads as u32-from-le-bytes
-use Rattle.jobs.proofs.u64_from_le_bytes.Reads as u64-from-le-bytes
 use Rattle.jobs.proofs.is_whole.Reads as is-whole
 use Rattle.jobs.proofs.kind_at.Reads as kind-at
 use Rattle.jobs.proofs.body_at.Reads as body-at
@@ -14,19 +11,6 @@ use Rattle.jobs.proofs.whole_body.Reads as whole-body
 use Rattle.jobs.proofs.next_at.Reads as next-at
 use Rattle.jobs.proofs.is_header.Reads as is-header
 use Rattle.jobs.proofs.kind_of.Reads as kind-of
-use Rattle.jobs.proofs.zeros_behind.Reads as zeros-behind
-use Rattle.jobs.proofs.block_size.Reads as block-size
-use Rattle.jobs.proofs.is_block.Reads as is-block
-use Rattle.jobs.proofs.packet_size.Reads as packet-size
-
-pub u16-from-le-bytes-unique : (κs : Lfts 1) → Fixes (u16-from-le-bytes.Post κs) (λ r s. r)
-u16-from-le-bytes-unique κs a r₁ r₂ s₁ s₂ p q = p ∙ sym q
-
-pub u32-from-le-bytes-unique : (κs : Lfts 1) → Fixes (u32-from-le-bytes.Post κs) (λ r s. r)
-u32-from-le-bytes-unique κs a r₁ r₂ s₁ s₂ p q = p ∙ sym q
-
-pub u64-from-le-bytes-unique : (κs : Lfts 1) → Fixes (u64-from-le-bytes.Post κs) (λ r s. r)
-u64-from-le-bytes-unique κs a r₁ r₂ s₁ s₂ p q = p ∙ sym q
 
 pub is-whole-unique : (κs : Lfts 1) → Fixes (is-whole.Post κs) (λ r s. r)
 is-whole-unique κs a r₁ r₂ s₁ s₂ p q = p ∙ sym q
@@ -54,15 +38,3 @@ is-header-unique κs a r₁ r₂ s₁ s₂ p q = p ∙ sym q
 
 pub kind-of-unique : (κs : Lfts 0) → Fixes (kind-of.Post κs) (λ r s. r)
 kind-of-unique κs a r₁ r₂ s₁ s₂ p q = p ∙ sym q
-
-pub zeros-behind-unique : (κs : Lfts 1) → Fixes (zeros-behind.Post κs) (λ r s. r)
-zeros-behind-unique κs a r₁ r₂ s₁ s₂ p q = p ∙ sym q
-
-pub block-size-unique : (κs : Lfts 1) → Fixes (block-size.Post κs) (λ r s. r)
-block-size-unique κs a r₁ r₂ s₁ s₂ p q = p ∙ sym q
-
-pub is-block-unique : (κs : Lfts 1) → Fixes (is-block.Post κs) (λ r s. r)
-is-block-unique κs a r₁ r₂ s₁ s₂ p q = p ∙ sym q
-
-pub packet-size-unique : (κs : Lfts 1) → Fixes (packet-size.Post κs) (λ r s. r)
-packet-size-unique κs a r₁ r₂ s₁ s₂ p q = p ∙ sym q

@@ -5,26 +5,18 @@ use Prim.Native.Nat.{ℕ, _+_, _-_, _/_}
 use mathlib.Core.Path.{_≡_, sym, _∙_}
 use mathlib.Core.Bool.{true, false}
 use lib.ListN.{length}
-use lib.Dec.{leb}
-use borrow.Author.Tests.{leb-true, eqb-true}
-use Rattle.laws.proofs.Tests.{and-true, and-false-r}
+use Rattle.laws.proofs.Tests.{and-false-r}
 use Rattle.def_wire.specs.declared.Rle.{Rle}
 use Rattle.def_wire.specs.declared.Ranged.the-variants.{Chunks, Times}
 use Rattle.def_wire.specs.declared.Kind.the-variants.{Spans, Clock, Echoes}
 use Rattle.def_wire.specs.declared.KindOr.the-variants.{AKind, NoKind}
 use Rattle.def_wire.specs.Block.{kindOf}
 use Rattle.def_standard.specs.Range.{rangeOf}
-use Rattle.def_jobs.specs.Jobs.{Job, le16, jobFields, hasFields, isBlockJob, jobWords}
-use Rattle.jobs.proofs.JudgeLaws.{block-words, block-times}
-use Rattle.jobs.proofs.ZerosLaws.{length-times}
+use Rattle.def_jobs.specs.Jobs.{Job, jobFields, isBlockJob, jobWords}
+use Rattle.block_size.specs.Judged.{Fielded}
+use Rattle.block_size.proofs.JudgeLaws.{fields-are, block-words, block-times}
+use Rattle.block_size.proofs.ZerosLaws.{length-times}
 use Rattle.misled.specs.Misled.{goesOn, misledTimes, misledEchoes, misledBy}
-use Rattle.misled.specs.Known.{Fielded}
-
-fielded : (j : Job) (bytes : ℕ) → hasFields j bytes ≡ true → Fielded (j .body) bytes
-fielded j bytes e =
-    let p = and-true (leb 10 (length (j .body))) _ e in
-    let q = and-true (leb (le16 (j .body) 8) 15) _ (p .1) in
-    record { ten = leb-true _ _ (p .0); thin = leb-true _ _ (q .0); items = eqb-true _ _ (q .1) }
 
 module _ (j : Job) (behind : ℕ) where
   pub misled-bad : isBlockJob j ≡ false → false ≡ misledBy j behind
@@ -47,7 +39,7 @@ module _ (j : Job) (behind : ℕ) where
 
     module _ (a : Rle) (e : kindOf (j .kind) ≡ AKind (Spans (Chunks a))) where
       pub fielded-words : Fielded (j .body) 2
-      fielded-words = fielded j 2 (sym (block-words j a e) ∙ b)
+      fielded-words = fields-are j 2 (sym (block-words j a e) ∙ b)
 
       pub misled-words : goesOn (rangeOf (jobFields j)) (jobFields j .end) 0 (jobWords j) ≡ misledBy j behind
       unfolding misledBy
@@ -55,7 +47,7 @@ module _ (j : Job) (behind : ℕ) where
 
     module _ (e : kindOf (j .kind) ≡ AKind (Spans Times)) where
       pub fielded-times : Fielded (j .body) 4
-      fielded-times = fielded j 4 (sym (block-times j e) ∙ b)
+      fielded-times = fields-are j 4 (sym (block-times j e) ∙ b)
 
       pub misled-times : let own = (length (j .body) - 10) / 4 in
           misledTimes (jobFields j) own (own + behind / 4) ≡ misledBy j behind

@@ -22,11 +22,12 @@ use Rattle.def_standard.specs.Range.{offsetOf, numberOf}
 use Rattle.def_crate.specs.Sequence.{passes}
 use Rattle.range.specs.Inside.{insideCount}
 use Rattle.def_jobs.specs.Jobs.{le16, jobWords}
-use Rattle.jobs.specs.Sizes.{jobOf}
-use Rattle.jobs.proofs.LowLaws.{getD-low16, le16-drop}
-use Rattle.jobs.proofs.ZerosLaws.{length-words}
+use Rattle.little_endian.proofs.LowLaws.{getD-low16, le16-drop}
+use Rattle.jobs.specs.Places.{jobOf}
+use Rattle.block_size.specs.Judged.{Fielded}
+use Rattle.block_size.proofs.ZerosLaws.{length-words}
 use Rattle.misled.specs.Misled.{outsideAt, goesOn}
-use Rattle.misled.specs.Known.{Fielded, FirstOne}
+use Rattle.misled.specs.Known.{FirstOne}
 use Rattle.misled.proofs.OutsideLaws.{outside-clear, outside-first, outside-none}
 
 -- a body's words

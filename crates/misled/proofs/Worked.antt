@@ -16,7 +16,7 @@ use Rattle.def_crate.specs.Sequence.{passes}
 use Rattle.range.specs.Inside.{ceilDiv, insideCount}
 use Rattle.range.specs.Failing.{firstFail}
 use Rattle.def_jobs.specs.Jobs.{pairLow, isBlockJob}
-use Rattle.jobs.specs.Sizes.{jobOf}
+use Rattle.jobs.specs.Places.{jobOf}
 use Rattle.misled.specs.Misled.{outsideFrom, goesOn, misledTimes, misledEchoes, misledBy}
 
 -- numbers of two bytes, the least significant first

@@ -5,9 +5,10 @@ ghost use Prim.Native.Nat.{_≤_, _<_};
 ghost use lib.Count.{leadingZeros};
 ghost use Rattle.def_standard.specs.Chunks.{coversOf};
 ghost use Rattle.def_jobs.specs.Jobs.{le16, jobFields, jobWords};
-ghost use Rattle.jobs.specs.Sizes.{jobOf};
+ghost use Rattle.jobs.specs.Places.{jobOf};
+ghost use Rattle.block_size.specs.Judged.{Fielded};
 ghost use Rattle.misled.specs.Misled.{goesOn, misledTimes, misledEchoes, misledBy};
-ghost use Rattle.misled.specs.Known.{Fielded, FirstOne};
+ghost use Rattle.misled.specs.Known.{FirstOne};
 use def_standard::Range;
 use def_wire::Fields;
 use def_wire::Kind;
@@ -19,11 +20,11 @@ fn fields_of(body: &[u8]) -> Fields
     requires { ⌜ le16 (now body) 8 ≤ 15 ⌝ }
     ensures { λ r. ⌜ r ≡ jobFields (jobOf 1 (now (body .entry))) ⌝ }
 {
-    let thinning = jobs::u16_from_le_bytes(body, 8);
+    let thinning = little_endian::u16_from_le_bytes(body, 8);
     Fields {
-        ssrc: jobs::u32_from_le_bytes(body, 0),
-        begin: jobs::u16_from_le_bytes(body, 4),
-        end: jobs::u16_from_le_bytes(body, 6),
+        ssrc: little_endian::u32_from_le_bytes(body, 0),
+        begin: little_endian::u16_from_le_bytes(body, 4),
+        end: little_endian::u16_from_le_bytes(body, 6),
         thinning: thinning as u8,
     }
 }
@@ -100,7 +101,7 @@ fn misled_echoes(entries: usize, behind: usize) -> bool
 pub fn misled(kind: u16, body: &[u8], behind: usize) -> bool
     ensures { λ r. ⌜ r ≡ misledBy (jobOf kind (now (body .entry))) behind ⌝ }
 {
-    if !jobs::is_block(kind, body) {
+    if !block_size::is_block(kind, body) {
         return false;
     }
     match jobs::kind_of(kind) {

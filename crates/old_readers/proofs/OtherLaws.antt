@@ -24,14 +24,14 @@ use Rattle.def_jobs.specs.Shown.{clocked, echoed, recordOf, echoRow, numbersRow
 use Rattle.def_jobs.specs.Layout.{head, bytesAs}
 use Rattle.def_jobs.specs.Writing.{maxBytes, differs}
 use Rattle.utils.proofs.BytesLaws.{be64-eight, length-words32}
+use Rattle.little_endian.proofs.LowLaws.{length-low32}
 use Rattle.misled.specs.Misled.{misledEchoes}
-use Rattle.written.proofs.WordsLaws.{under-low32, length-low32, length-four}
+use Rattle.written.proofs.WordsLaws.{under-low32, words32-behind, length-four}
 use Rattle.written.proofs.WalkLaws.{length-stands}
 use Rattle.written.proofs.RecordsLaws.{Body}
 use Rattle.written.proofs.BlockLaws.{clock-laid}
 use Rattle.written.proofs.JobLaws.{le64-lt, laid-as}
 use Rattle.old_readers.proofs.Same.{same-self, same-front}
-use Rattle.old_readers.proofs.TimesLaws.{words32-behind}
 
 -- ---- type 4
 

@@ -1,6 +1,5 @@
 -- What 15 comes to for a block of type 3: both readings list a first stretch of the same pairs, so they show the same
 -- where they list as many. Assumes nothing.
---     words32-behind     the words of numbers' bytes with more bytes behind them
 --     times-mislead      the block misleads where `misledTimes` says so
 use Prim.Native.Nat.{ℕ, zero, suc, _+_, _/_, _%_, _≤_, min}
 use mathlib.Core.Path.{_≡_, refl, sym, ap, ap₂, _∙_}
@@ -29,25 +28,18 @@ use Rattle.def_jobs.specs.Jobs.{Job, jobFields, jobTimes, hasFields}
 use Rattle.def_jobs.specs.Shown.{Record, received, recordOf, receiptRow, sameRow}
 use Rattle.def_jobs.specs.Layout.{bytesOf, bytesAs}
 use Rattle.def_jobs.specs.Writing.{maxBytes, differs}
-use Rattle.utils.proofs.BytesLaws.{words32-four, length-words32}
+use Rattle.utils.proofs.BytesLaws.{length-words32}
 use Rattle.range.specs.Inside.{insideCount}
 use Rattle.range.specs.Failing.{firstFail, never}
 use Rattle.packet_receipt_time.specs.Pairs.{firstPairs}
 use Rattle.packet_receipt_time.proofs.PairsLaws.{first-all, pairs-standard, pairs-crate}
 use Rattle.misled.specs.Misled.{misledTimes}
-use Rattle.written.proofs.Lists.{Under, under-drop}
-use Rattle.written.proofs.WordsLaws.{under-low32, length-four}
+use Rattle.written.proofs.Lists.{under-drop}
+use Rattle.written.proofs.WordsLaws.{under-low32, words32-behind, length-four}
 use Rattle.written.proofs.RecordsLaws.{Body}
 use Rattle.written.proofs.BlockLaws.{fields-back}
 use Rattle.written.proofs.JobLaws.{job-fits, laid-as}
 use Rattle.old_readers.proofs.Same.{same-front, same-received}
-
-pub words32-behind : (ts rest : List ℕ) → Under 4294967296 ts
-    → words32 (bytesOf four ts ++ rest) ≡ ts ++ words32 rest
-words32-behind [] rest h = refl
-words32-behind (t ∷ ts) rest h =
-    words32-four t (bytesOf four ts ++ rest) (h 0)
-    ∙ ap (λ (l : List ℕ). t ∷ l) (words32-behind ts rest (λ i. h (suc i)))
 
 -- ---- first stretches of the same pairs
 

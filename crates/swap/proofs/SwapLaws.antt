@@ -1,49 +1,22 @@
--- The laws of little-endian numbers and of their big-endian bytes, beside jobs' LowLaws. Assumes nothing.
---     pairLow-*               neighbours joined, from an index on
+-- The laws of little-endian numbers and of their big-endian bytes, beside little_endian's LowLaws. Assumes nothing.
 --     swapped16-*, ..         a list of bytes number by number, eight bytes at once, and at its end
 --     two-bytes, four-words   a number's bytes, and the words of a 32-bit number
 --     turned2-*, ..           eight bytes turned round
-use Prim.Native.Nat.{ℕ, suc, _+_, _*_, _/_, _%_, _≤_, _<_}
+use Prim.Native.Nat.{ℕ, _+_, _/_, _%_, _≤_}
 use mathlib.Core.Path.{_≡_, refl, sym, ap, ap₂, _∙_}
 use mathlib.Core.List.{List, [], _∷_, _++_}
-use native.Mathlib.Numerals.{add-one}
 use native.Mathlib.Omega.{arith}
-use lib.ListN.{length, getD, drop, length-drop}
-use lib.Seq.{drop-cons}
+use lib.ListN.{length, drop, length-drop}
 use Rattle.def_wire.specs.Bytes.{byteAt, two, four}
-use Rattle.def_jobs.specs.Jobs.{le16, le32, pairLow, low16, low32}
+use Rattle.def_jobs.specs.Jobs.{le16, le32, low16}
 use Rattle.def_jobs.specs.Layout.{bytesOf}
 use Rattle.utils.proofs.BytesLaws.{Bytes}
 use Rattle.utils.proofs.StoresLaws.{two-low}
-use Rattle.jobs.proofs.LowLaws.{length-low16}
+use Rattle.little_endian.proofs.LowLaws.{length-low16, pairLow-cons, pairLow-short, low32-cons}
 use Rattle.swap.specs.declared.Eight.{Eight}
 use Rattle.swap.specs.Eights.{eightAt, bytesIn, turned2, turned4}
 use Rattle.swap.specs.Swapped.{swapped16, swapped32, words4, numbers2}
 use Rattle.swap.proofs.Turn.{Pieces}
-
--- from an index with two whole elements behind it on
-pairLow-cons : (b : ℕ) (s : List ℕ) (at : ℕ) → at + 2 ≤ length s
-    → pairLow b (drop at s) ≡ (getD s at 0 + getD s (at + 1) 0 * b) ∷ pairLow b (drop (at + 2) s)
-unfolding pairLow
-pairLow-cons b s at h =
-    let i : at < length s = omega arith in
-    let j : suc at < length s = omega arith in
-    let e : at + 2 ≡ suc (suc at) = omega arith in
-    rw (e, add-one, drop-cons s at 0 i, drop-cons s (suc at) 0 j)
-
-pairLow-short : (b : ℕ) (s : List ℕ) → length s ≤ 1 → pairLow b s ≡ []
-unfolding pairLow
-pairLow-short b [] h = refl
-pairLow-short b (x ∷ []) h = refl
-pairLow-short b (x ∷ y ∷ s) h = absurd (omega arith)
-
-low32-cons : (s : List ℕ) (at : ℕ) → at + 4 ≤ length s → low32 (drop at s) ≡ le32 s at ∷ low32 (drop (at + 4) s)
-unfolding pairLow
-low32-cons s at h =
-    let e : at + 4 ≡ at + 2 + 2 = omega arith in
-    let i : at + 2 ≤ length s = omega arith in
-    let j : at + 2 + 2 ≤ length s = omega arith in
-    rw (e, pairLow-cons 256 s at i, pairLow-cons 256 s (at + 2) j)
 
 -- ---- nothing is left
 pub swapped16-end : (s : List ℕ) (k : ℕ) → length s ≤ k + 1 → swapped16 (drop k s) ≡ []

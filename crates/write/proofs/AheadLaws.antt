@@ -9,7 +9,7 @@ use lib.ListN.{length, drop, length-drop}
 use Rattle.def_refusals.specs.declared.Checked.the-variants.{Fine}
 use Rattle.def_jobs.specs.Jobs.{Job, isWhole, jobAt, isBlockJob, jobsFault}
 use Rattle.laws.proofs.Tests.{and-true}
-use Rattle.jobs.specs.Sizes.{jobOf, nextJob, jobsBehind}
+use Rattle.jobs.specs.Places.{jobOf, nextJob, jobsBehind}
 use Rattle.jobs.proofs.JobsLaws.{behind-some, fault-good, fine-first}
 use Rattle.jobs.proofs.PlaceLaws.{next-whole, behind-next, length-body, job-at}
 

@@ -11,7 +11,7 @@ use Rattle.def_jobs.specs.Jobs.{Job, jobAt, jobsFault}
 use Rattle.def_jobs.specs.Layout.{blockBytes, blocksBytes}
 use Rattle.laws.specs.Stores.{Wrote}
 use Rattle.laws.proofs.Filling.{Storing, start, room-for, wrote, ended}
-use Rattle.jobs.specs.Sizes.{jobOf, nextJob, jobsBehind}
+use Rattle.jobs.specs.Places.{jobOf, nextJob, jobsBehind}
 use Rattle.jobs.proofs.JobsLaws.{behind-none}
 use Rattle.jobs.proofs.PlaceLaws.{job-at}
 use Rattle.write.proofs.AheadLaws.{Ahead, rest, next, onward}

@@ -11,10 +11,10 @@ use Rattle.def_refusals.specs.declared.Checked.the-variants.{Fine, Unfit}
 use Rattle.def_jobs.specs.declared.Layout.the-variants.{Careful}
 use Rattle.def_jobs.specs.Jobs.{Job, jobAt, jobsFault}
 use Rattle.def_jobs.specs.Layout.{blockBytes, blocksBytes}
-use Rattle.jobs.specs.Sizes.{jobOf, nextJob, jobsBehind}
+use Rattle.jobs.specs.Places.{jobOf, nextJob, jobsBehind}
 use Rattle.jobs.proofs.JobsLaws.{behind-none}
 use Rattle.jobs.proofs.PlaceLaws.{job-at}
-use Rattle.jobs.proofs.LayoutLaws.{length-blocks}
+use Rattle.packet_size.proofs.LayoutLaws.{length-blocks}
 use Rattle.misled.specs.Misled.{misledBy, misledFault}
 use Rattle.write.proofs.AheadLaws.{Ahead, rest, next, past, onward}
 use Rattle.write.proofs.AheadLaws as ahead

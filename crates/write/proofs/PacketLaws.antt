@@ -25,11 +25,13 @@ use Rattle.def_jobs.specs.Writing.{sizeFault, misleadFault, writeFault, packetO
 use Rattle.laws.specs.Stores.{Wrote}
 use Rattle.laws.proofs.Tests.{and-true}
 use Rattle.laws.proofs.Stores.{and-then, same, filled}
-use Rattle.jobs.specs.Sizes.{nextJob, jobsBehind, sizeAnswer}
+use Rattle.jobs.specs.Places.{nextJob, jobsBehind}
 use Rattle.jobs.proofs.JobsLaws.{jobs-next, fault-good, fine-first}
 use Rattle.jobs.proofs.PlaceLaws.{next-whole}
-use Rattle.jobs.proofs.LayoutLaws.{length-layout, length-padding}
-use Rattle.jobs.proofs.SizeLaws.{header-padding, size-done, size-refused}
+use Rattle.jobs.proofs.HeaderLaws.{header-padding}
+use Rattle.packet_size.specs.Sizes.{sizeAnswer}
+use Rattle.packet_size.proofs.LayoutLaws.{length-layout, length-padding}
+use Rattle.packet_size.proofs.SizeLaws.{size-done, size-refused}
 use Rattle.misled.specs.Misled.{misledFault}
 use Rattle.utils.proofs.BytesLaws.{Bytes}
 use Rattle.written.proofs.Lists.{Each}

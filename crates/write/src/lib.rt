@@ -12,7 +12,8 @@ ghost use Rattle.laws.specs.Stores.{Wrote};
 ghost use Rattle.def_jobs.specs.Jobs.{jobsOf, jobsFault};
 ghost use Rattle.def_jobs.specs.Layout.{blocksBytes, layoutOf};
 ghost use Rattle.def_jobs.specs.Writing.{misleadFault, packetOf};
-ghost use Rattle.jobs.specs.Sizes.{jobsBehind, sizeAnswer};
+ghost use Rattle.jobs.specs.Places.{jobsBehind};
+ghost use Rattle.packet_size.specs.Sizes.{sizeAnswer};
 ghost use Rattle.misled.specs.Misled.{misledFault};
 use def_jobs::Layout;
 use def_refusals::Answer;
@@ -48,10 +49,15 @@ fn lay_out(layout: Layout, list: &[u8], size: usize, out: &mut [u8])
     ensures { λ _. ⌜ now (out .exit) ≡ layoutOf layout (jobsOf (now (list .entry))) ++ drop size (now (out .entry)) ⌝ }
 {
     let header = jobs::body_at(list, 0);
-    let padding = wide16(jobs::u16_from_le_bytes(header, 4));
-    let blocks = builder::write_header(out, padding, size, jobs::u32_from_le_bytes(header, 0));
+    let padding = wide16(little_endian::u16_from_le_bytes(header, 4));
+    let blocks = frame::write_header(
+        out,
+        padding,
+        size,
+        little_endian::u32_from_le_bytes(header, 0),
+    );
     let end = write_blocks(layout, list, jobs::next_at(list, 0), out, blocks);
-    builder::write_padding(out, end, padding);
+    frame::write_padding(out, end, padding);
 }
 
 // The packet, where the buffer has room for it; else 11.
@@ -72,7 +78,7 @@ fn put(layout: Layout, list: &[u8], size: usize, out: &mut [u8]) -> Answer
 pub fn write_plain(list: &[u8], out: &mut [u8]) -> Answer
     ensures { λ r. ⌜ Listed (packetOf Layout.Plain (now (list .entry))) (now (out .entry)) r (now (out .exit)) ⌝ }
 {
-    match jobs::packet_size(Layout::Plain, list) {
+    match packet_size::packet_size(Layout::Plain, list) {
         Answer::Done(n) => put(Layout::Plain, list, n, out),
         Answer::Refused(x) => Answer::Refused(x),
     }
@@ -90,7 +96,7 @@ fn misled_behind(list: &[u8], from: usize, bytes: usize) -> Checked
     while at < list.len() {
         let body = jobs::whole_body(list, at);
         let kind = jobs::whole_kind(list, at);
-        behind -= jobs::block_size(Layout::Careful, kind, body);
+        behind -= block_size::block_size(Layout::Careful, kind, body);
         if misled::misled(kind, body, behind) {
             return Checked::Unfit(Refusal::Misleads(k));
         }
@@ -106,7 +112,7 @@ fn misleading(list: &[u8], size: usize) -> Checked
     ensures { λ r. ⌜ r ≡ misleadFault Layout.Careful (layoutOf Layout.Careful (jobsOf (now (list .entry))))
         (length (jobsOf (now (list .entry))) - 1) ⌝ }
 {
-    if jobs::u16_from_le_bytes(jobs::body_at(list, 0), 4) != 0 {
+    if little_endian::u16_from_le_bytes(jobs::body_at(list, 0), 4) != 0 {
         return Checked::Fine;
     }
     misled_behind(list, jobs::next_at(list, 0), size - 8)
@@ -117,7 +123,7 @@ fn misleading(list: &[u8], size: usize) -> Checked
 pub fn write_careful(list: &[u8], out: &mut [u8]) -> Answer
     ensures { λ r. ⌜ Listed (packetOf Layout.Careful (now (list .entry))) (now (out .entry)) r (now (out .exit)) ⌝ }
 {
-    match jobs::packet_size(Layout::Careful, list) {
+    match packet_size::packet_size(Layout::Careful, list) {
         Answer::Done(n) => match misleading(list, n) {
             Checked::Fine => put(Layout::Careful, list, n, out),
             Checked::Unfit(x) => Answer::Refused(x),

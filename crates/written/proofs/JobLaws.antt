@@ -20,9 +20,10 @@ use Rattle.def_jobs.specs.Jobs.{Job, le16, le32, le64, low32, jobFields, jobWor
 use Rattle.def_jobs.specs.Jobs.{isBlockJob, askedAs, askedOf}
 use Rattle.def_jobs.specs.Layout.{bytesOf, wordsBytes, bytesAs, blockBytes}
 use Rattle.utils.proofs.BytesLaws.{Bytes}
+use Rattle.little_endian.proofs.LowLaws.{length-low32}
 use Rattle.written.proofs.Lists.{under-drop}
 use Rattle.written.proofs.RecordsLaws.{Body}
-use Rattle.written.proofs.WordsLaws.{under-low16, under-low32, length-low32, words32-bytes, length-four}
+use Rattle.written.proofs.WordsLaws.{under-low16, under-low32, words32-bytes, length-four}
 use Rattle.written.proofs.WordsLaws.{numbers-behind, words-even}
 use Rattle.written.proofs.BlockLaws.{Fits, Laid, rle-laid, times-laid, clock-laid, echoes-laid}
 

@@ -1,11 +1,11 @@
 -- The words, times and entries of a record's body, written as bytes and read back. Assumes nothing.
---     under-low16, under-low32, length-low32       a body's numbers, their bounds and their count
---     words16-bytes, words32-bytes                 their bytes read back
+--     under-low16, under-low32                     a body's numbers, and their bounds
+--     words16-bytes, words32-behind, ..            their bytes read back, with more bytes behind them and without
 --     length-two, length-four                      how many bytes they are
 --     block-words, numbers-behind, words-even      a block's words: the record's and zero words, which show nothing
-use Prim.Native.Nat.{ℕ, zero, suc, _+_, _*_, _/_, _%_, _<_}
+use Prim.Native.Nat.{ℕ, zero, suc, _+_, _*_, _%_, _<_}
 use mathlib.Core.Path.{_≡_, refl, ap, _∙_}
-use mathlib.Core.List.{List, [], _∷_, _++_}
+use mathlib.Core.List.{List, [], _∷_, _++_, append-nil}
 use native.Mathlib.Nat.{add-comm}
 use native.Mathlib.Omega.{arith}
 use lib.ListN.{length, replicate, length-append, length-replicate}
@@ -39,15 +39,6 @@ under-low16 s h = under-pairLow 256 s (lit< tt) h
 pub under-low32 : (s : List ℕ) → Bytes s → Under 4294967296 (low32 s)
 under-low32 s h = under-pairLow 65536 (low16 s) (lit< tt) (under-low16 s h)
 
-length-pairLow : (b : ℕ) (s : List ℕ) → length (pairLow b s) ≡ length s / 2
-unfolding pairLow
-length-pairLow b [] = refl
-length-pairLow b (x ∷ []) = refl
-length-pairLow b (x ∷ y ∷ s) = let e = length-pairLow b s in omega arith
-
-pub length-low32 : (s : List ℕ) → length (low32 s) ≡ length s / 4
-length-low32 s = omega (arith, length-pairLow 65536 (low16 s), length-pairLow 256 s)
-
 -- ---- read back
 
 pub words16-bytes : (ws rest : List ℕ) → Under 65536 ws → words16 (bytesOf two ws ++ rest) ≡ ws ++ words16 rest
@@ -56,12 +47,16 @@ words16-bytes (w ∷ ws) rest h =
     words16-two w (bytesOf two ws ++ rest) (h 0)
     ∙ ap (λ (l : List ℕ). w ∷ l) (words16-bytes ws rest (λ i. h (suc i)))
 
+pub words32-behind : (ts rest : List ℕ) → Under 4294967296 ts
+    → words32 (bytesOf four ts ++ rest) ≡ ts ++ words32 rest
+words32-behind [] rest h = refl
+words32-behind (t ∷ ts) rest h =
+    words32-four t (bytesOf four ts ++ rest) (h 0)
+    ∙ ap (λ (l : List ℕ). t ∷ l) (words32-behind ts rest (λ i. h (suc i)))
+
 pub words32-bytes : (ts : List ℕ) → Under 4294967296 ts → words32 (bytesOf four ts) ≡ ts
 unfolding pairUp
-words32-bytes [] h = refl
-words32-bytes (t ∷ ts) h =
-    words32-four t (bytesOf four ts) (h 0)
-    ∙ ap (λ (l : List ℕ). t ∷ l) (words32-bytes ts (λ i. h (suc i)))
+words32-bytes ts h = rw (append-nil (bytesOf four ts), append-nil ts) at (words32-behind ts [] h)
 
 pub length-two : (ws : List ℕ) → length (bytesOf two ws) ≡ 2 * length ws
 length-two [] = refl

@@ -8,8 +8,9 @@ use Rattle.def_wire.specs.declared.Kind.the-variants.{Spans, Clock, Echoes}
 use Rattle.def_wire.specs.declared.KindOr.the-variants.{AKind}
 use Rattle.def_wire.specs.Block.{kindOf}
 use Rattle.def_jobs.specs.Jobs.{Job}
-use Rattle.jobs.specs.Sizes.{jobOf}
-use Rattle.jobs.proofs.JudgeLaws.{kind-is, kind-spans, block-words, block-times, block-clock}
+use Rattle.jobs.specs.Places.{jobOf}
+use Rattle.jobs.proofs.KindLaws.{kind-is, kind-spans}
+use Rattle.block_size.proofs.JudgeLaws.{block-words, block-times, block-clock}
 use Rattle.builder.proofs.JobLaws.{fit, block-room, block-wrote}
 use Rattle.builder.proofs.write_block.Statement.{statement}
 use Rattle.builder.proofs.write_block.Tie as tie

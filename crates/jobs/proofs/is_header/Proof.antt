@@ -1,6 +1,6 @@
 -- `jobs::is_header` meets its contract.
-use Rattle.jobs.specs.Sizes.{jobOf}
-use Rattle.jobs.proofs.JudgeLaws.{header-kind, header-length, header-four, header-most}
+use Rattle.jobs.specs.Places.{jobOf}
+use Rattle.jobs.proofs.HeaderLaws.{header-kind, header-length, header-four, header-most}
 use borrow.Author.Needs.{needs}
 use Rattle.jobs.proofs.is_header.Statement.{statement}
 use Rattle.jobs.proofs.is_header.Tie as tie

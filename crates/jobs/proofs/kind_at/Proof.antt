@@ -1,6 +1,6 @@
 -- `jobs::kind_at` meets its contract.
 use mathlib.Core.Path.{_∙_}
-use Rattle.jobs.proofs.LowLaws.{le16-cut}
+use Rattle.little_endian.proofs.LowLaws.{le16-cut}
 use borrow.Author.Needs.{needs}
 use Rattle.jobs.proofs.kind_at.Statement.{statement}
 use Rattle.jobs.proofs.kind_at.Tie as tie

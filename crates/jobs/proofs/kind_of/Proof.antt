@@ -1,7 +1,7 @@
 -- `jobs::kind_of` meets its contract: no kind is over 5.
 use mathlib.Core.Path.{sym}
 use native.Mathlib.Omega.{arith}
-use Rattle.jobs.proofs.JobsLaws.{kindOf-none}
+use Rattle.jobs.proofs.KindLaws.{kindOf-none}
 use borrow.Author.Needs.{needs}
 use Rattle.jobs.proofs.kind_of.Statement.{statement}
 use Rattle.jobs.proofs.kind_of.Tie as tie

@@ -1,9 +1,8 @@
 -- `jobs::whole_kind` meets its contract.
 use mathlib.Core.Path.{_∙_}
 use native.Mathlib.Omega.{arith}
-use Rattle.jobs.proofs.LowLaws.{le16-cut}
+use Rattle.little_endian.proofs.LowLaws.{le16-cut}
 use Rattle.jobs.proofs.PlaceLaws.{whole-within}
-use borrow.Author.Needs.{needs}
 use Rattle.jobs.proofs.whole_kind.Statement.{statement}
 use Rattle.jobs.proofs.whole_kind.Tie as tie
 

@@ -10,9 +10,9 @@ use Rattle.def_wire.specs.declared.Kind.the-variants.{Spans}
 use Rattle.def_wire.specs.declared.KindOr.the-variants.{AKind}
 use Rattle.def_wire.specs.Block.{kindOf}
 use Rattle.def_jobs.specs.Jobs.{Job, isBlockJob}
-use Rattle.jobs.specs.Sizes.{jobOf}
-use Rattle.jobs.proofs.JudgeLaws.{kind-is, kind-spans}
-use Rattle.misled.specs.Known.{Fielded}
+use Rattle.jobs.specs.Places.{jobOf}
+use Rattle.jobs.proofs.KindLaws.{kind-is, kind-spans}
+use Rattle.block_size.specs.Judged.{Fielded}
 use Rattle.misled.proofs.MisledLaws.{fielded-words, fielded-times, misled-bad, misled-words, misled-times}
 use Rattle.misled.proofs.MisledLaws.{misled-clock, misled-echoes, misled-none}
 use Rattle.misled.proofs.misled.Statement.{statement}

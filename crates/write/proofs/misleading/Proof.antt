@@ -7,7 +7,7 @@ use lib.ListN.{length, drop}
 use Rattle.utils.proofs.BytesLaws.{Bytes}
 use Rattle.def_jobs.specs.declared.Layout.the-variants.{Careful}
 use Rattle.def_jobs.specs.Jobs.{le16, jobAt, askedPadding}
-use Rattle.jobs.specs.Sizes.{nextJob, jobsBehind}
+use Rattle.jobs.specs.Places.{nextJob, jobsBehind}
 use Rattle.misled.specs.Misled.{misledFault}
 use Rattle.write.proofs.PacketLaws.{framed, behind, fifteen-padded, fifteen-bare, blocks-size}
 use borrow.Author.Needs.{needs}

@@ -3,7 +3,7 @@ use native.Mathlib.Omega.{arith}
 use mathlib.Core.Path.{_≡_, sym, _∙_}
 use Prim.Native.Nat.{_+_, _-_}
 use lib.ListN.{length, drop}
-use Rattle.jobs.specs.Sizes.{nextJob, jobsBehind}
+use Rattle.jobs.specs.Places.{nextJob, jobsBehind}
 use Rattle.write.proofs.AheadLaws.{whole, past}
 use Rattle.write.proofs.MisledTurn.{Looking, begun, room, found, turned, finished}
 use borrow.Author.Needs.{needs}

@@ -6,7 +6,7 @@ use native.Mathlib.Omega.{arith}
 use lib.ListN.{drop}
 use Rattle.def_jobs.specs.Jobs.{jobsOf}
 use Rattle.def_jobs.specs.Layout.{layoutOf}
-use Rattle.jobs.proofs.SizeLaws.{size-done}
+use Rattle.packet_size.proofs.SizeLaws.{size-done}
 use Rattle.laws.proofs.Answering.{listed, full}
 use borrow.Author.Needs.{needs}
 use Rattle.write.proofs.put.Statement.{statement}

@@ -1,0 +1,3 @@
+-- FrameLaws (a packet's first bytes, zeros and padding), Unique (no second answer).
+pub mod FrameLaws
+pub mod Unique
