@@ -128,6 +128,6 @@ pub fn write_careful(list: &[u8], out: &mut [u8]) -> Answer
             Checked::Fine => put(Layout::Careful, list, n, out),
             Checked::Unfit(x) => Answer::Refused(x),
         },
-        Answer::Refused(x) => Answer::Refused(x),
+        Answer::Refused(y) => Answer::Refused(y),
     }
 }

@@ -40,8 +40,8 @@ returns-3 : tie.Need-returns-3
 returns-3 c = let x = c .before in
     let z = x .before .before in
     let a = z .before .before .before .args in
-    turned-away _ (a .out .now) (x .x2 .given .0 .0)
-    (packet-refused Careful (a .list .now) (x .x2 .given .0 .0) (sym (z .packet-size .ensures) ∙ x .x2 .given .1))
+    turned-away _ (a .out .now) (x .y .given .0 .0)
+    (packet-refused Careful (a .list .now) (x .y .given .0 .0) (sym (z .packet-size .ensures) ∙ x .y .given .1))
 
 pub write-careful-spec : {M : Type 1} → statement M
 write-careful-spec =
