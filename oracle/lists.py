@@ -69,7 +69,7 @@ def crate_numbers(r, words):
     """From the words that are read: all but the block's last."""
     start = r.begin
     for word in words:
-        for q, value in enumerate(values(word)):
+        for q, value in enumerate(values(word) if word >> 14 else []):      # a run of zeros lists nothing
             if value:
                 s = offset_sequence(q, start, r)
                 if s is None:

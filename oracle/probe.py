@@ -20,9 +20,10 @@ ROOT = os.path.dirname(os.path.dirname(os.path.abspath(__file__)))
 LENT = 16384        # the most room that a list is lent
 LONGEST = 300000    # the longest payload, in bytes
 
-DUMP, LIST, FIELDS, CURSOR, PLAIN, WORD, PARSE, WORDS, VIEW, NUMBERS = 1, 2, 3, 4, 5, 7, 8, 9, 11, 14
-FORMS = {DUMP: "<", LIST: "<BIBI", FIELDS: "<BIB", CURSOR: "<IBIIIII", PLAIN: "<I", WORD: "<BII", PARSE: "<B",
-         WORDS: "<BIBI", VIEW: "<BI", NUMBERS: "<BIBI"}
+DUMP, LIST, FIELDS, CURSOR, PLAIN, CAREFUL, WORD, PARSE, WORDS, VIEW, NUMBERS = 1, 2, 3, 4, 5, 6, 7, 8, 9, 11, 14
+NO_KIND = 10        # of the kinds that are none
+FORMS = {DUMP: "<", LIST: "<BIBI", FIELDS: "<BIB", CURSOR: "<IBIIIII", PLAIN: "<I", CAREFUL: "<I", WORD: "<BII",
+         PARSE: "<B", WORDS: "<BIBI", VIEW: "<BI", NUMBERS: "<BIBI"}
 # For each kind with an asked type: the types that it serves. LIST takes no other; of the others a byte that
 # they do not serve is refused as 10 (FIELDS asks the time for 4).
 TYPES = {LIST: (1, 2, 3, 5), FIELDS: (1, 2, 3, 4), CURSOR: (1, 2), WORDS: (1, 2), NUMBERS: (1, 2)}
@@ -35,7 +36,7 @@ def asked(kind):
 
 
 def request(kind, *given, packet=b""):
-    """The kind's numbers, in order, and then the packet (for PLAIN, the job list)."""
+    """The kind's numbers, in order, and then the packet (for PLAIN and CAREFUL, the job list)."""
     return kind, struct.pack(FORMS[kind], *given) + packet
 
 
@@ -131,8 +132,9 @@ def cursor_answer(given, packet):
                 lambda f: "taken {} word {} place {} position {}\n".format(*f) + listed("numbers", f[4]))
 
 
-def plain_answer(given, jobs):
-    return told(write(jobs, False, min(*given, MOST_BYTES)), lambda found: f"packet {found.hex()}")
+def written_answer(careful):
+    return lambda given, jobs: told(write(jobs, careful, min(*given, MOST_BYTES)),
+                                    lambda found: f"packet {found.hex()}")
 
 
 def word_answer(given, behind):
@@ -152,8 +154,8 @@ def view_answer(given, packet):
 
 
 ANSWERS = {DUMP: lambda _, packet: dump(packet), LIST: list_answer, FIELDS: fields_answer,
-           CURSOR: cursor_answer, PLAIN: plain_answer, WORD: word_answer, PARSE: parse_answer, WORDS: words_answer,
-           VIEW: view_answer, NUMBERS: numbers_answer}
+           CURSOR: cursor_answer, PLAIN: written_answer(False), CAREFUL: written_answer(True), WORD: word_answer,
+           PARSE: parse_answer, WORDS: words_answer, VIEW: view_answer, NUMBERS: numbers_answer}
 
 
 def run_answer(data):

@@ -114,20 +114,28 @@ fn tell_packet(buf: &mut [u8], at: usize, out: &[u8], a: Answer) -> usize {
     }
 }
 
-fn packet(list: &[u8], buf: &mut [u8], at: usize, out: &mut [u8]) -> usize {
+// The answer of careful or of plain writing.
+fn written(careful: bool, list: &[u8], out: &mut [u8]) -> Answer {
+    if careful {
+        return write::write_careful(list, out);
+    }
+    write::write_plain(list, out)
+}
+
+fn packet(careful: bool, list: &[u8], buf: &mut [u8], at: usize, out: &mut [u8]) -> usize {
     lent::fill8(out);
-    let a = write::write_plain(list, out);
+    let a = written(careful, list, out);
     tell_packet(buf, at, out, a)
 }
 
-// Kind 5: room, job list.
-fn plain(p: &[u8], buf: &mut [u8], at: usize) -> Told {
+// Kinds 5 (plain) and 6 (careful): room, job list.
+fn writing(careful: bool, p: &[u8], buf: &mut [u8], at: usize) -> Told {
     if p.len() < 4 {
         return probe::unserved(at);
     }
     let mut out = [0u8; MOST];
     let room = utils::lesser(probe::number(p, 0), MOST);
-    probe::served(packet(&p[4..], buf, at, &mut out[0..room]))
+    probe::served(packet(careful, &p[4..], buf, at, &mut out[0..room]))
 }
 
 // Kind 8: reading, packet.
@@ -173,7 +181,8 @@ pub fn answer(kind: u8, p: &[u8], buf: &mut [u8], at: usize, list: &mut [u16]) -
         1 => probe::served(dump::dump(p, buf, at)),
         3 => shown(p, buf, at),
         4 => probe::stretch(p, buf, at, list),
-        5 => plain(p, buf, at),
+        5 => writing(false, p, buf, at),
+        6 => writing(true, p, buf, at),
         7 => make(p, buf, at),
         8 => parse(p, buf, at),
         11 => view(p, buf, at),

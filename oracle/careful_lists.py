@@ -1,0 +1,127 @@
+"""Job lists for careful writing, most of them at an edge of refusal 15.
+
+chosen()               lists of records: each edge once, small
+lists(draw, count)     job lists, drawn at random; some padded, damaged or at the limits
+edges(draw, count)     records of so many blocks at an edge, and some more
+
+An edge: the first one outside a range stands at its end or a little behind it, and by a run or a vector that begins
+before it, there, or later; as many times as a range has positions, or nearly; few bytes behind times and entries.
+"""
+from jobs import job_list
+from model_cases import CLOCK, dlrr, header, rle, times
+from readings import Range
+from scale_lists import EDGES, FAR, damaged, largest
+from scale_lists import header as any_header
+from scale_lists import record
+
+ENTRIES = (0, 0, 0, 1, 1, 1, 2, 3, 4, 5, 5, 6, 8, 9, 9, 13)
+FEW = 40        # positions that are told one by one
+
+
+def positions(r):
+    """How many positions are inside."""
+    size = (r.end - r.begin) % 65536 or 65536
+    return -(-size >> r.thinning)
+
+
+# Drawn
+
+def lists(draw, count):
+    for _ in range(count):
+        luck = draw.random()
+        if luck < .0005:
+            yield job_list(largest(draw))
+        elif luck < .01:
+            yield job_list([any_header(draw, 0)] + [record(draw, 1) for _ in range(draw.randrange(29, 35))])
+        else:
+            padding = draw.choice((0,) * 30 + (4, 252))
+            jobs = job_list([any_header(draw, padding), *edges(draw, draw.choice((0, 1, 1, 1, 2, 2, 3, 4, 7)))])
+            yield damaged(jobs, draw) if luck < .06 else jobs
+
+
+def edges(draw, count):
+    """So many blocks, and behind them nothing or blocks without entries, of 4, 8 or 12 bytes in all."""
+    return [any_edge(draw) for _ in range(count)] + [(5, [])] * (draw.choice((0, 0, 0, 0, 1, 2, 3)) if count else 0)
+
+
+def any_edge(draw):
+    kind = draw.choice((1, 1, 2, 2, 3, 3, 4, 5, 5, 5))
+    if kind == 4:
+        return 4, draw.choice((0, 2**64 - 1, draw.getrandbits(64)))
+    if kind == 5:
+        return 5, [tuple(draw.getrandbits(32) for _ in range(3)) for _ in range(draw.choice(ENTRIES))]
+    r = any_range(draw)
+    if kind == 3:
+        count = positions(r) + draw.randrange(-2, 3)
+        count = count if 0 <= count < FEW else draw.randrange(5)
+        return 3, r, [draw.getrandbits(32) for _ in range(count)]
+    return kind, r, edge_words(draw, positions(r))
+
+
+def any_range(draw):
+    begin, thinning = draw.choice(EDGES + (draw.getrandbits(16),) * 4), draw.randrange(16)
+    size = draw.choice((0, 1, 2, 3, draw.randrange(FEW), (draw.randrange(4) << thinning) + draw.randrange(-1, 2),
+                        (draw.randrange(FEW) << thinning) + draw.randrange(-1, 2), 65535, 65536 - (1 << thinning),
+                        draw.getrandbits(16)))
+    if size % 65536 >> thinning > 1000 or size == 0 and thinning < 7:
+        size = size if draw.random() < .1 else draw.randrange(1, FEW)     # a long list takes the model long
+    return Range(draw.choice((0, 7, FAR)), begin, (begin + size) % 65536, thinning)
+
+
+def edge_words(draw, inside):
+    """Words whose first one outside, if there is one, stands near position `inside`."""
+    how, own = draw.randrange(8), []
+    ahead = draw.choice((0, 0, 1, draw.randrange(15), draw.randrange(30)))
+    if how < 2:         # ones from the end on, or from a little behind it
+        own = covering(draw, inside) + covering(draw, ahead, ones=False) + [0x4000 | draw.choice((1, 1, 2, 20, 16383))]
+    elif how < 5:       # a run of ones over the end, or up to it
+        own = covering(draw, max(inside - ahead, 0)) + [0x4000 | min(ahead + draw.randrange(3), 16383)]
+    elif how < 7:       # a vector over the end
+        own = covering(draw, max(inside - ahead % 16, 0)) + [0x8000 | draw.getrandbits(15) & draw.getrandbits(15)]
+    else:               # nothing behind the end, or any words
+        own = draw.choice((covering(draw, inside), [draw.getrandbits(16) for _ in range(draw.randrange(4))]))
+    behind = (0, 0, 3, 16384, 16385, 32768, 0x8000 | draw.getrandbits(15), draw.getrandbits(14))
+    return own + [draw.choice(behind) for _ in range(draw.choice((0, 0, 0, 1, 1, 2, 3)))]
+
+
+def covering(draw, count, ones=True):
+    """Words that cover so many positions; without ones, if that is asked."""
+    own = []
+    while count > 0:
+        size = min(count, 16383) if count > 2 * FEW else draw.choice((count, draw.randrange(1, count + 1)))
+        word = size
+        if ones and count >= 15 and draw.random() < .2:
+            size, word = 15, 0x8000 | draw.getrandbits(15)
+        elif ones and (size < 1000 or draw.random() < .2):
+            word |= draw.choice((0, 0x4000))
+        own += [word] + [draw.choice((0, 16384))] * (draw.random() < .1)
+        count -= size
+    return own
+
+
+# Chosen
+
+def chosen():
+    yield [header()]
+    yield [header(4), dlrr(1), CLOCK]
+    for kind in 1, 2:
+        for own in ([], [16386], [16386, 16386], [16386, 0], [2, 16385], [16386, 16385], [16387], [16387, 16385],
+                    [16386, 1, 16385], [16385, 16385, 16385], [57344], [49152, 16385], [40960], [3, 16384], [0, 0]):
+            yield [header(), rle(own, 10, 12, kind=kind)]
+        yield [header(), rle([49408], 65530, 65531, kind=kind)]
+    for last in [16388, 16385], [16389], [4, 16385], [5, 16385]:
+        yield [header(), rle([16383] * 4 + last, 5, 5)]
+    for thinning in range(16):
+        for begin, end in (0, 0), (65530, 3), (7, (7 + (2 << thinning)) % 65536):
+            own = positions(Range(7, begin, end, thinning))
+            if own < FEW:
+                for count in own, own + 1:
+                    yield [header(), rle([0x4000 | count], begin, end, thinning)]
+                    yield [header(), times(list(range(count)), begin, end, thinning), dlrr(0)]
+    for behind in ([], [dlrr(0)], [dlrr(0)] * 2, [dlrr(0)] * 3, [CLOCK], [rle([], 1, 2)], [dlrr(1)], [CLOCK] * 2,
+                   [rle([1, 2, 3], 0, 0)]):
+        for count in 0, 1, 2, 4, 5, 9:
+            yield [header(), dlrr(count), *behind]
+        for end in 7, 8, 9:
+            yield [header(), times([1, 2], 5, end), *behind]
+        yield [header(), CLOCK, *behind, times([1, 2, 3], 5, 5, 15)]
