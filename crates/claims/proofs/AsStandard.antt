@@ -4,18 +4,18 @@
 --     as-standard     where it does not mislead, the crate answers as the standard
 --     no-misleading   and the other way round
 use Prim.Native.Nat.{ℕ, _≤_}
-use mathlib.Core.Path.{_≡_, refl, sym, ap, ap₂, subst, _∙_}
+use mathlib.Core.Path.{_≡_, refl, sym, ap, ap₂, _∙_}
 use mathlib.Core.Bool.{Bool, true, false, not}
 use mathlib.Core.List.{List}
 use native.Mathlib.Omega.{arith}
 use lib.ListN.{length}
 use lib.Dec.{eqb, leb}
 use borrow.Author.Tests.{eqb-true, leb-true, le-ltb}
-use Rattle.laws.proofs.Tests.{by-test, either, true≢false}
+use Rattle.laws.proofs.Tests.{by-test, true≢false}
 use Rattle.def_refusals.specs.declared.Refusal.{Refusal}
 use Rattle.def_refusals.specs.declared.Checked.{Checked}
 use Rattle.def_refusals.specs.declared.Checked.the-variants.{Fine, Unfit}
-use Rattle.def_refusals.specs.Answers.{Or, shown, refused, onFine, onShown}
+use Rattle.def_refusals.specs.Answers.{Or, shown, refused, onShown}
 use Rattle.def_wire.specs.declared.Reading.{Reading}
 use Rattle.def_wire.specs.declared.Reading.the-variants.{Standard, Crate}
 use Rattle.def_wire.specs.declared.Rle.{Rle}
@@ -30,7 +30,7 @@ use Rattle.def_wire.specs.declared.Fields.{Fields}
 use Rattle.def_wire.specs.declared.FieldsOr.{FieldsOr}
 use Rattle.def_wire.specs.declared.FieldsOr.the-variants.{Shown, NoneOf}
 use Rattle.def_wire.specs.declared.LongTime.{LongTime}
-use Rattle.def_wire.specs.declared.TimeOr.the-variants.{Time, NoTime}
+use Rattle.def_wire.specs.declared.TimeOr.the-variants.{Time}
 use Rattle.def_wire.specs.Packet.{viewOf}
 use Rattle.def_wire.specs.Block.{typeOf, kindType, rleOf, rangedOf, kindOf, standardRule, fitness, checkOf, isCut, rule}
 use Rattle.def_wire.specs.Block.{onCheckedFields, onCheckedTime, fieldsAt, timeAt, fieldsOf, timeOf}

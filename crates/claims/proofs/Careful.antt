@@ -2,7 +2,7 @@
 --     not-misled, fifteen, unread     the claims
 use Prim.Native.Nat.{ℕ, zero, suc, _+_, _*_, _-_, _≤_, _<_}
 use mathlib.Core.Path.{_≡_, refl, sym, ap, subst, _∙_}
-use mathlib.Core.Bool.{Bool, true, false}
+use mathlib.Core.Bool.{true, false}
 use mathlib.Core.List.{List, [], _∷_, _++_}
 use native.Mathlib.Omega.{arith}
 use lib.ListN.{length, getD, take, drop, length-append, List·getD-append}
@@ -14,10 +14,9 @@ use Rattle.def_refusals.specs.declared.Refusal.the-variants.{TooShort, BlockToo
 use Rattle.def_refusals.specs.declared.Answer.the-variants.{Done, Refused}
 use Rattle.def_refusals.specs.declared.Checked.{Checked}
 use Rattle.def_refusals.specs.declared.Checked.the-variants.{Fine, Unfit}
-use Rattle.def_refusals.specs.Answers.{Or, shown, refused, onFine}
-use Rattle.def_wire.specs.declared.Reading.the-variants.{Standard, Crate}
+use Rattle.def_refusals.specs.Answers.{shown, refused, onFine}
+use Rattle.def_wire.specs.declared.Reading.the-variants.{Crate}
 use Rattle.def_wire.specs.Packet.{countOf, locate, viewOf}
-use Rattle.def_wire.specs.Block.{typeOf}
 use Rattle.def_questions.specs.Packets.{fieldsAsked, numbersAsked, pairsAsked, entriesAsked, timeAsked}
 use Rattle.def_jobs.specs.declared.Layout.the-variants.{Careful}
 use Rattle.def_jobs.specs.Jobs.{Job, cutJob, askedPadding, jobsOf, jobsFault, askedOf}
@@ -25,7 +24,7 @@ use Rattle.def_jobs.specs.Layout.{blockBytes, blocksBytes, layoutOf}
 use Rattle.def_jobs.specs.Writing.{misleads, misleadingFrom, sizeFault, writeFault, packetOf}
 use Rattle.written.specs.Shows.{recordAt, blocksIn}
 use Rattle.written.proofs.Lists.{Each, each-at}
-use Rattle.written.proofs.RecordsLaws.{Body, bodies, Good, Fit, fit, written, some-record, on-fine}
+use Rattle.written.proofs.RecordsLaws.{Body, bodies, Fit, fit, written, some-record, on-fine}
 use Rattle.written.proofs.JobLaws.{block-laid}
 use Rattle.written.proofs.Shows.{view-at, good-at}
 use Rattle.old_readers.proofs.PacketLaws.{crate-count, crate-view, block-some}

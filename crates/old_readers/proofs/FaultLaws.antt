@@ -2,29 +2,25 @@
 --     misleads-at       without padding, block k misleads where its record does with the bytes behind its block
 --     careful-fault     15 is what the records say; with padding it never applies
 use Prim.Native.Nat.{ℕ, zero, suc, _+_, _-_, _%_, _≤_, _<_}
-use mathlib.Core.Path.{_≡_, refl, sym, ap, _∙_}
-use mathlib.Core.Bool.{false, true, cond}
-use mathlib.Core.List.{List, [], _∷_, _++_}
-use native.Mathlib.Nat.{add-zero, add-comm}
+use mathlib.Core.Path.{_≡_, refl, ap}
+use mathlib.Core.Bool.{cond}
+use mathlib.Core.List.{List, _++_}
 use native.Mathlib.Omega.{arith}
-use lib.ListN.{length, getD, drop, length-append, length-drop}
+use lib.ListN.{length, getD, drop, length-drop}
 use lib.Seq.{drop-cons, drop-length}
 use lib.Dec.{eqb}
 use borrow.Author.Tests.{eqb-true, eqb-false}
 use Rattle.laws.proofs.Tests.{both}
 use Rattle.def_refusals.specs.declared.Refusal.{Refusal}
-use Rattle.def_refusals.specs.declared.Refusal.the-variants.{Misleads}
 use Rattle.def_refusals.specs.declared.Answer.the-variants.{Refused}
 use Rattle.def_refusals.specs.declared.Checked.{Checked}
-use Rattle.def_refusals.specs.declared.Checked.the-variants.{Fine, Unfit}
-use Rattle.def_refusals.specs.Answers.{shown}
-use Rattle.def_wire.specs.declared.Reading.the-variants.{Standard, Crate}
+use Rattle.def_refusals.specs.declared.Checked.the-variants.{Fine}
+use Rattle.def_wire.specs.declared.Reading.the-variants.{Crate}
 use Rattle.def_wire.specs.Packet.{placeOf, countOf, locate}
 use Rattle.def_jobs.specs.declared.Layout.the-variants.{Careful}
-use Rattle.def_jobs.specs.Shown.{recordOf}
-use Rattle.def_jobs.specs.Jobs.{Job, cutJob, askedPadding, isBlockJob}
+use Rattle.def_jobs.specs.Jobs.{Job, cutJob, askedPadding}
 use Rattle.def_jobs.specs.Layout.{blockBytes, blocksBytes}
-use Rattle.def_jobs.specs.Writing.{maxBytes, differs, misleads, misleadingFrom, misleadFault}
+use Rattle.def_jobs.specs.Writing.{maxBytes, misleads, misleadingFrom, misleadFault}
 use Rattle.misled.specs.Misled.{misledBy, misledFault}
 use Rattle.written.proofs.Lists.{Each, each-at, each-drop}
 use Rattle.written.proofs.RecordsLaws.{Body, Good, Fit}

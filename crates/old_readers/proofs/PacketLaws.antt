@@ -2,12 +2,11 @@
 --     crate-count      without padding it has a block for each record but the first
 --     crate-view       and block k's view is the block and all the blocks behind it
 --     block-some       no block is empty
-use Prim.Native.Nat.{ℕ, zero, suc, _+_, _*_, _-_, _/_, _%_, _≤_, _<_}
-use mathlib.Core.Path.{_≡_, refl, sym, ap, _∙_}
-use mathlib.Core.Bool.{true}
-use mathlib.Core.List.{List, [], _∷_, _++_, map, append-nil}
+use Prim.Native.Nat.{ℕ, zero, suc, _+_, _-_, _≤_, _<_}
+use mathlib.Core.Path.{_≡_, sym, ap, _∙_}
+use mathlib.Core.List.{List, [], _∷_, _++_, append-nil}
 use native.Mathlib.Omega.{arith}
-use lib.ListN.{length, getD, take, drop, length-append, length-map, length-drop}
+use lib.ListN.{length, getD, drop, length-map, length-drop}
 use lib.Seq.{take-all}
 use Rattle.def_refusals.specs.declared.Answer.the-variants.{Done}
 use Rattle.def_refusals.specs.Answers.{shown}
@@ -19,7 +18,7 @@ use Rattle.def_jobs.specs.Layout.{paddingBytes, blockBytes, blocksBytes}
 use Rattle.written.proofs.Lists.{Each, each-at}
 use Rattle.written.proofs.WalkLaws.{joined, Announces, length-joined, count-blocks, locate-block, block-stands}
 use Rattle.written.proofs.RecordsLaws.{Body, Fit}
-use Rattle.written.proofs.HeaderLaws.{around, length-around, header-around}
+use Rattle.written.proofs.HeaderLaws.{length-around, header-around}
 use Rattle.written.proofs.Shows.{blocksOf, joined-blocks, whole-blocks, block-at, header-padding, packet-around}
 use Rattle.written.proofs.Shows.{small-around, announced, stands}
 

@@ -6,13 +6,12 @@ use mathlib.Core.Path.{_≡_, refl, sym, ap, _∙_}
 use mathlib.Core.List.{List, [], _∷_, _++_}
 use native.Mathlib.Nat.{zero-add}
 use native.Mathlib.Omega.{arith}
-use lib.ListN.{length, drop, replicate, length-append, length-drop}
+use lib.ListN.{length, drop, replicate}
 use lib.Seq.{drop-drop, drop-append-seam}
 use borrow.Author.Tests.{lt-ltb, lt-leb}
 use Rattle.def_refusals.specs.declared.Refusal.the-variants.{TooShort, BlockTooLong}
 use Rattle.def_refusals.specs.declared.Answer.the-variants.{Done, Refused}
 use Rattle.def_wire.specs.declared.Reading.the-variants.{Crate}
-use Rattle.def_wire.specs.Bytes.{be16}
 use Rattle.def_wire.specs.Packet.{lengthAt, headerOf, walkFrom, countOf}
 use Rattle.def_jobs.specs.declared.Layout.{Layout}
 use Rattle.def_jobs.specs.Jobs.{Job, senderOf, askedPadding}
@@ -21,7 +20,7 @@ use Rattle.utils.proofs.BytesLaws.{be16-same, same-drop}
 use Rattle.written.proofs.Lists.{Each}
 use Rattle.written.proofs.WalkLaws.{joined, length-joined, walk-next, walk-blocks}
 use Rattle.written.proofs.RecordsLaws.{Body, Fit}
-use Rattle.written.proofs.HeaderLaws.{around, length-around, header-around}
+use Rattle.written.proofs.HeaderLaws.{length-around, header-around}
 use Rattle.written.proofs.Shows.{blocksOf, whole-blocks, header-padding, packet-around, small-around, announced, stands}
 
 length-here : (s : List ℕ) (at : ℕ) → lengthAt s at ≡ lengthAt (drop at s) 0

@@ -4,8 +4,8 @@
 --     packet-done, packet-misleads, packet-refused     what is answered before 11
 --     fifteen-padded, fifteen-bare                     15 by the list's records
 use Prim.Native.Nat.{ℕ, _+_, _-_, _/_, _≤_}
-use mathlib.Core.Path.{_≡_, refl, sym, ap, subst, _∙_}
-use mathlib.Core.Bool.{true, cond}
+use mathlib.Core.Path.{_≡_, sym, ap, subst, _∙_}
+use mathlib.Core.Bool.{cond}
 use mathlib.Core.List.{List, _∷_, _++_}
 use native.Mathlib.Omega.{arith}
 use lib.ListN.{length, drop}
@@ -30,7 +30,7 @@ use Rattle.jobs.proofs.JobsLaws.{jobs-next, fault-good, fine-first}
 use Rattle.jobs.proofs.PlaceLaws.{next-whole}
 use Rattle.jobs.proofs.HeaderLaws.{header-padding}
 use Rattle.packet_size.specs.Sizes.{sizeAnswer}
-use Rattle.packet_size.proofs.LayoutLaws.{length-layout, length-padding}
+use Rattle.packet_size.proofs.LayoutLaws.{length-layout}
 use Rattle.packet_size.proofs.SizeLaws.{size-done, size-refused}
 use Rattle.misled.specs.Misled.{misledFault}
 use Rattle.utils.proofs.BytesLaws.{Bytes}

@@ -1,15 +1,15 @@
 -- `write::misleading` meets its contract: none with padding, else the list's records are looked through.
-use Prim.Native.Nat.{ℕ, _≤_}
-use mathlib.Core.Path.{_≡_, sym, ap, _∙_}
+use Prim.Native.Nat.{ℕ}
+use mathlib.Core.Path.{_≡_, ap, _∙_}
 use mathlib.Core.List.{List}
 use native.Mathlib.Omega.{arith}
-use lib.ListN.{length, drop}
+use lib.ListN.{drop}
 use Rattle.utils.proofs.BytesLaws.{Bytes}
 use Rattle.def_jobs.specs.declared.Layout.the-variants.{Careful}
 use Rattle.def_jobs.specs.Jobs.{le16, jobAt, askedPadding}
 use Rattle.jobs.specs.Places.{nextJob, jobsBehind}
 use Rattle.misled.specs.Misled.{misledFault}
-use Rattle.write.proofs.PacketLaws.{framed, behind, fifteen-padded, fifteen-bare, blocks-size}
+use Rattle.write.proofs.PacketLaws.{framed, fifteen-padded, fifteen-bare, blocks-size}
 use borrow.Author.Needs.{needs}
 use Rattle.write.proofs.misleading.Statement.{statement}
 use Rattle.write.proofs.misleading.Tie as tie

@@ -6,7 +6,6 @@ use lib.ListN.{length, drop}
 use Rattle.jobs.specs.Places.{nextJob, jobsBehind}
 use Rattle.write.proofs.AheadLaws.{whole, past, block}
 use Rattle.write.proofs.BlocksTurn.{Writing, begun, room, turned, finished}
-use borrow.Author.Needs.{needs}
 use Rattle.write.proofs.write_blocks.Statement.{statement}
 use Rattle.write.proofs.write_blocks.Tie as tie
 

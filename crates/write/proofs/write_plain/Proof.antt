@@ -1,8 +1,5 @@
 -- `write::write_plain` meets its contract: 12, 14, then 11 or the packet.
 use mathlib.Core.Path.{refl, sym, _∙_}
-use mathlib.Core.List.{List}
-use Prim.Native.Nat.{ℕ}
-use Rattle.def_refusals.specs.Answers.{Or, Listed}
 use Rattle.laws.proofs.Answering.{turned-away}
 use Rattle.write.proofs.PacketLaws.{packet-done, packet-refused}
 use Rattle.def_jobs.specs.declared.Layout.the-variants.{Plain}
