@@ -71,7 +71,8 @@ module _ (r : Reading) (v : List ℕ) where
   unfolding recordOf
   record-fine k c = rw (type-fine k c, kind-type k)
 
-  checked-fields : (c : Checked) (x : FieldsOr) (f : Fields) → onCheckedFields c x ≡ Shown f → (c ≡ Fine) × (x ≡ Shown f)
+  checked-fields : (c : Checked) (x : FieldsOr) (f : Fields) → onCheckedFields c x ≡ Shown f
+      → (c ≡ Fine) × (x ≡ Shown f)
   checked-fields Fine x f e = (refl, e)
   checked-fields (Unfit y) x f e = absurd (let z : _≡_ {A = ℕ} 0 1 = cc in omega arith)
 
@@ -224,7 +225,8 @@ module _ (s : List ℕ) (k : ℕ) (b : Both s k) where
     shown-own (reported a f l) e =
         let p = fields-fine Standard (b .own) (Chunks a) f (rw (b .standard) at (e .0)) in
         let q = numbers-fine Standard (b .own) a l (rw (b .standard) at (e .1)) in
-        chunks-record Standard (b .own) a (p .0) ∙ ap₂ (λ (x : Fields) (y : List ℕ). shown (reported a x y)) (p .2) (q .1)
+        chunks-record Standard (b .own) a (p .0)
+        ∙ ap₂ (λ (x : Fields) (y : List ℕ). shown (reported a x y)) (p .2) (q .1)
     shown-own (received f l) e =
         let p = fields-fine Standard (b .own) Times f (rw (b .standard) at (e .0)) in
         let q = pairs-fine Standard (b .own) l (rw (b .standard) at (e .1)) in

@@ -121,8 +121,8 @@ module _ (h : Job) (js : List Job) (s : List ℕ) (w : Fit Careful h js s) (bh :
       }
 
 -- the crate's view of what no record asks for
-abbrev view-none : (h : Job) (js : List Job) (s : List ℕ) → Fit Careful h js s → Body h → Each Body js → askedPadding h ≡ 0
-    → (k : ℕ) → length js ≤ k → Refusal
+abbrev view-none : (h : Job) (js : List Job) (s : List ℕ) → Fit Careful h js s → Body h → Each Body js
+    → askedPadding h ≡ 0 → (k : ℕ) → length js ≤ k → Refusal
 view-none h [] s w bh b z k l = TooShort 12 8
 view-none h (j ∷ js) s w bh b z k l = NoBlock (length (j ∷ js))
 
@@ -271,7 +271,8 @@ not-misled list out out′ n bytes p =
     let e = listed-taken out out′ n (packetOf Careful list) p in
     let w = written Careful list (take n out′) e in
     let g : Judged list = record { bytes = bytes; good = w .0; fits = w .1 } in
-    let f : fifteenOf list ≡ Fine = on-fine (fifteenOf list) (laid list) (take n out′) (sym (judged-answer list g) ∙ e) .0 in
+    let f : fifteenOf list ≡ Fine =
+    on-fine (fifteenOf list) (laid list) (take n out′) (sym (judged-answer list g) ∙ e) .0 in
     rw (← w .2) (counts g, seen g f)
   where
     counts : Judged list → (m : ℕ) → countOf Crate (laid list) ≡ Done m → m ≡ blocksIn (jobsOf list)

@@ -2,7 +2,8 @@
 --     Answered      what the reading functions answer, in a reading, of block k of a packet s that shows a record
 --     ReadBack      what they answer of a packet s of the records js, of which the first is the header record
 --     RoundTrip     and so of every packet that was written, in either layout
--- Nothing is asked of a writer but its contract; it was lent out, and left out′ in it. The packet is read by the standard.
+-- Nothing is asked of a writer but its contract; it was lent out, and left out′ in it. The packet is read by the
+-- standard.
 use Prim.Native.Nat.{ℕ, _+_, _<_}
 use mathlib.Core.Path.{_≡_}
 use mathlib.Core.List.{List}

@@ -1,5 +1,5 @@
-// The chunk words of loss and duplicate blocks (RFC 3611, 4.1 and 4.2), from their bytes. Which bytes those are, and the
-// checks before, are the callers'.
+// The chunk words of loss and duplicate blocks (RFC 3611, 4.1 and 4.2), from their bytes. Which bytes those are, and
+// the checks before, are the callers'.
 ghost use mathlib.Core.Path.{_≡_};
 ghost use Prim.Native.Nat.{_≤_};
 ghost use lib.ListN.{length};

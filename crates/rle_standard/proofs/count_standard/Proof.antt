@@ -1,5 +1,5 @@
--- `rle_standard::count_standard` meets its contract: what is counted and what is still to be listed make up the whole, for
--- every range with as many positions inside. Assumes nothing.
+-- `rle_standard::count_standard` meets its contract: what is counted and what is still to be listed make up the
+-- whole, for every range with as many positions inside. Assumes nothing.
 use Prim.Native.Nat.{ℕ, _+_, _-_, _≤_, _<_}
 use mathlib.Core.Path.{_≡_, ap, _∙_}
 use mathlib.Core.List.{List}

@@ -1,5 +1,5 @@
--- `rle_standard::fill_standard` meets its contract: there is room for all that are inside, or for as many as were counted; else
--- it is refused. Assumes nothing.
+-- `rle_standard::fill_standard` meets its contract: there is room for all that are inside, or for as many as were
+-- counted; else it is refused. Assumes nothing.
 use Rattle.ones.proofs.NumbersLaws.{length-numbers}
 use Rattle.laws.proofs.Answering.{listed, full}
 use Rattle.def_standard.specs.Standard.{numbersOf}

@@ -1,5 +1,5 @@
--- `rle_standard::list::list_standard` meets its contract: the loop fills from the front, with `left` positions still inside.
--- Assumes nothing.
+-- `rle_standard::list::list_standard` meets its contract: the loop fills from the front, with `left` positions still
+-- inside. Assumes nothing.
 use Prim.Native.Nat.{ℕ, _+_, _-_, _^_, _≤_, _<_}
 use mathlib.Core.List.{List}
 use mathlib.Core.Path.{_≡_, ap, _∙_}
