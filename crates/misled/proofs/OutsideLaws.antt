@@ -1,5 +1,6 @@
 -- Where a word's first one outside the range is, place by place: the one place that unfolds `outsideFrom`. Of the
 -- positions from the word's first on, `left` are inside. Assumes nothing.
+--     outside-quiet     a word without ones has none
 --     outside-clear     a word that ends inside has none
 --     outside-first     it is the first one from place `left` on
 --     outside-none      where that lies past the word, there is none
@@ -19,7 +20,7 @@ use Rattle.chunk.proofs.ChunkLaws.{length-valuesIn, values-at}
 use Rattle.range.specs.Inside.{insideCount}
 use Rattle.range.proofs.InsideLaws.{is-inside, is-outside}
 use Rattle.misled.specs.Misled.{outsideFrom, outsideAt}
-use Rattle.misled.specs.Known.{FirstOne}
+use Rattle.misled.specs.Known.{FirstOne, Quiet}
 
 module _ (g : Range) (p w : ℕ) where
   -- place q has value one and is outside
@@ -53,6 +54,9 @@ module _ (g : Range) (p w : ℕ) where
 
   out-none : ((i : ℕ) → i < coversOf w → isOut i ≡ false) → coversOf w ≤ outsideAt g p w
   out-none z = omega (arith, out-from (coversOf w) (omega arith) z, out-end (coversOf w) (omega arith))
+
+  pub outside-quiet : Quiet w → coversOf w ≤ outsideAt g p w
+  outside-quiet q = out-none (λ i a. rw (q .zeros i a))
 
   module _ {left : ℕ} (l : left ≡ insideCount g - p) where
     is-in : (i : ℕ) → i < left → isOut i ≡ false

@@ -6,8 +6,10 @@
 --     next-clear     the word at hand ends inside the range, and is passed
 --     next-none      it goes on outside, has no one there, and is passed
 --     found          it has one
-use Prim.Native.Nat.{ℕ, suc, _+_, _*_, _-_, _/_, _%_, _^_, _≤_, _<_}
+--     over           the words of a stretch are passed at once
+use Prim.Native.Nat.{ℕ, zero, suc, _+_, _*_, _-_, _/_, _%_, _^_, _≤_, _<_}
 use mathlib.Core.Path.{_≡_, refl, sym, ap, _∙_}
+use mathlib.Core.Logic.{_⊎_, inl, inr, ⊎-elim}
 use mathlib.Core.Bool.{false, cond}
 use mathlib.Core.List.{List, _∷_}
 use native.Mathlib.Nat.{add-zero, mod-add-mod, add-mul-mod-self-left, div-add-mod}
@@ -27,8 +29,9 @@ use Rattle.jobs.specs.Places.{jobOf}
 use Rattle.block_size.specs.Judged.{Fielded}
 use Rattle.block_size.proofs.ZerosLaws.{length-words}
 use Rattle.misled.specs.Misled.{outsideAt, goesOn}
-use Rattle.misled.specs.Known.{FirstOne}
-use Rattle.misled.proofs.OutsideLaws.{outside-clear, outside-first, outside-none}
+use Rattle.misled.specs.Known.{FirstOne, coveredIn, QuietIn, Over}
+use Rattle.misled.proofs.StretchTurn.{covered-none, covered-more}
+use Rattle.misled.proofs.OutsideLaws.{outside-quiet, outside-clear, outside-first, outside-none}
 
 -- a body's words
 abbrev wordsOf : List ℕ → List ℕ
@@ -119,3 +122,46 @@ module _ {g : Range} {end : ℕ} {body : List ℕ} {left p at : ℕ} (f : Fielde
           rw (s .circle) (numberOf-circle g (s .position) r) in
           let e = outside-first g (s .position) w (s .inside) o (rw (← h .covers) k) in
           sym (turn ∙ (rw (e, lt-ltb _ _ k, a, b)))
+
+-- the words of a stretch, one after the other
+module _ {g : Range} {end : ℕ} {body : List ℕ} {left p at : ℕ} (f : Fielded body 2)
+    (s : Passing g end body left p at) where
+  -- so many of them were passed
+  abbrev Past : ℕ → Type 0
+  Past n = Passing g end body (left - coveredIn body at n) ((p + coveredIn body at n) % 65536) (at + 2 * n)
+
+  -- so many of them can be
+  abbrev Clear : ℕ → Type 0
+  Clear n = (coveredIn body at n ≤ left) ⊎ QuietIn body at n
+
+  past-none : Past 0
+  past-none =
+      let c = covered-none body at in
+      let e : left - coveredIn body at 0 ≡ left = omega (arith, c) in
+      let i : (p + coveredIn body at 0) % 65536 ≡ p = omega (arith, c, s .circle) in
+      let j : at + 2 * 0 ≡ at = omega arith in
+      rw (e, i, j) s
+
+  clear-before : (n : ℕ) → Clear (suc n) → Clear n
+  clear-before n =
+      ⊎-elim (λ x. inl (omega (arith, covered-more body at n, x)))
+      (λ x. inr (record { each = λ i l. x .each i (omega arith) }))
+
+  past-more : (n : ℕ) → at + 2 * suc n ≤ length body → Clear (suc n) → Past n → Past (suc n)
+  past-more n h k t =
+      let w = le16 body (at + 2 * n) in
+      let c = covered-more body at n in
+      let o : coversOf w ≤ outsideAt g (t .position) w =
+      ⊎-elim (λ x. outside-clear g (t .position) w (t .inside) (omega (arith, c, x)))
+      (λ x. outside-quiet g (t .position) w (x .each n (omega arith))) k in
+      let i : at + 2 * suc n ≡ at + 2 * n + 2 = omega arith in
+      let j : (p + coveredIn body at (suc n)) % 65536 ≡ ((p + coveredIn body at n) % 65536 + coversOf w) % 65536 =
+      omega (arith, c) in
+      rw (i, j) (next f t (record { within = omega arith; bytes = refl; covers = refl }) _ (omega (arith, c)) o)
+
+  past : (n : ℕ) → at + 2 * n ≤ length body → Clear n → Past n
+  past zero h k = past-none
+  past (suc n) h k = past-more n h k (past n (omega arith) (clear-before n k))
+
+  pub over : {rest position to : ℕ} → Over body left p at rest position to → Passing g end body rest position to
+  over o = rw (o .inside, o .circle, o .index) (past (o .words) (omega (arith, o .index, o .within)) (o .clear))

@@ -1,14 +1,16 @@
 // Whether an old reader would be misled by a record's block (RULES, "Job lists and writing"): asked of the record and
-// of how many bytes stand behind its block. Nothing is laid out, and words are passed once, not position by position.
+// of how many bytes stand behind its block. Nothing is laid out, and words are passed once, many at a time where that
+// can be done, not position by position.
 ghost use mathlib.Core.Path.{_≡_};
-ghost use Prim.Native.Nat.{_≤_, _<_};
+ghost use Prim.Native.Nat.{_+_, _*_, _%_, _≤_, _<_};
+ghost use lib.ListN.{length};
 ghost use lib.Count.{leadingZeros};
 ghost use Rattle.def_standard.specs.Chunks.{coversOf};
 ghost use Rattle.def_jobs.specs.Jobs.{le16, jobFields, jobWords};
 ghost use Rattle.jobs.specs.Places.{jobOf};
 ghost use Rattle.block_size.specs.Judged.{Fielded};
 ghost use Rattle.misled.specs.Misled.{goesOn, misledTimes, misledEchoes, misledBy};
-ghost use Rattle.misled.specs.Known.{FirstOne};
+ghost use Rattle.misled.specs.Known.{FirstOne, coveredIn, QuietIn, Over};
 use def_standard::Range;
 use def_wire::Fields;
 use def_wire::Kind;
@@ -50,8 +52,98 @@ fn one_from(w: u16, place: usize) -> usize
     place + zeros_in_front((w as u32) << (17 + place))
 }
 
-// Types 1 and 2: whether the crate's list goes on past the range. `left` positions are still inside, and `p` is the
-// word's first position on the circle of 65,536.
+// The word at an index. (In a function of its own, so that its bytes become one load, and the loops below load eight
+// words at once.)
+fn word_at(body: &[u8], at: usize) -> u16
+    requires { ⌜ at + 2 ≤ length (now body) ⌝ }
+    ensures { λ r. ⌜ r ≡ le16 (now (body .entry)) at ⌝ }
+{
+    utils::pair(body[at + 1], body[at])
+}
+
+// How many positions so many words from an index on cover. Low and high bytes are added apart, since 16 bits hold
+// either sum.
+fn covered_in(body: &[u8], from: usize, n: usize) -> usize
+    requires { ⌜ (from + 2 * n ≤ length (now body)) × (n ≤ 256) ⌝ }
+    ensures { λ r. ⌜ r ≡ coveredIn (now (body .entry)) from n ⌝ }
+{
+    let mut low: u16 = 0;
+    let mut high: u16 = 0;
+    let mut k: usize = 0;
+    while k < n {
+        let c = chunk::covers(word_at(body, from + 2 * k));
+        low += c % 256;
+        high += c / 256;
+        k += 1;
+    }
+    high as usize * 256 + low as usize
+}
+
+// What words outside the range come to: the position behind them, on the circle of 65,536, and a number that is below
+// 0x4000 only where none of them has a one.
+struct Outside {
+    p: u16,
+    ones: u16,
+}
+
+// Each word goes into the number without its lowest one bit, as 0x4000 and 0x8000 have no ones either.
+fn outside_in(body: &[u8], from: usize, n: usize, start: u16) -> Outside
+    requires { ⌜ from + 2 * n ≤ length (now body) ⌝ }
+    ensures { λ r. ⌜ r .p ≡ (start + coveredIn (now (body .entry)) from n) % 65536 ⌝ }
+    ensures { λ r. ⌜ (r .ones < 16384 → QuietIn (now (body .entry)) from n) ⌝ }
+{
+    let mut p = start;
+    let mut ones: u16 = 0;
+    let mut k: usize = 0;
+    while k < n {
+        let w = word_at(body, from + 2 * k);
+        p = std::num::wrapping_add_u16(p, chunk::covers(w));
+        ones = ones | (w & std::num::wrapping_sub_u16(w, 1));
+        k += 1;
+    }
+    Outside { p, ones }
+}
+
+// Where the pass over the words stands: `left` positions are still inside the range, and `p` is the first position of
+// the word at `at`, on the circle of 65,536.
+struct Pass {
+    left: usize,
+    p: u16,
+    at: usize,
+}
+
+// Passes up to 256 words at once, where they end inside the range, or begin outside it and none of them has a one;
+// else none.
+fn stretch(body: &[u8], left: usize, p: u16, at: usize) -> Pass
+    requires { ⌜ at ≤ length (now body) ⌝ }
+    ensures { λ r. ⌜ Over (now (body .entry)) left p at (r .left) (r .p) (r .at) ⌝ }
+{
+    let n = utils::lesser(256, (body.len() - at) / 2);
+    let to = at + 2 * n;
+    if left == 0 {
+        let s = outside_in(body, at, n, p);
+        if s.ones < 0x4000 {
+            return Pass {
+                left,
+                p: s.p,
+                at: to,
+            };
+        }
+    } else {
+        let c = covered_in(body, at, n);
+        if c <= left {
+            return Pass {
+                left: utils::above(left, c),
+                p: std::num::wrapping_add_u16(p, (c % 65536) as u16),
+                at: to,
+            };
+        }
+    }
+    Pass { left, p, at }
+}
+
+// Types 1 and 2: whether the crate's list goes on past the range. Stretches are passed at once as long as that can be
+// done; the words of one that cannot be, those before `singly`, are gone through one by one.
 fn goes_on(body: &[u8], g: Range, end: u16) -> bool
     requires { ⌜ Fielded (now body) 2 ⌝ }
     ensures { λ r. ⌜ r ≡ goesOn g end 0 (jobWords (jobOf 1 (now (body .entry)))) ⌝ }
@@ -59,8 +151,19 @@ fn goes_on(body: &[u8], g: Range, end: u16) -> bool
     let mut left = range::inside_count(g);
     let mut p: u16 = 0;
     let mut at: usize = 10;
+    let mut singly: usize = 10;
     while at < body.len() {
-        let w = utils::pair(body[at + 1], body[at]);
+        if singly <= at {
+            let s = stretch(body, left, p, at);
+            if at < s.at {
+                left = s.left;
+                p = s.p;
+                at = s.at;
+                continue;
+            }
+            singly = at + 512;
+        }
+        let w = word_at(body, at);
         let covered = chunk::covers(w);
         if left < covered as usize {
             let q = one_from(w, left);
