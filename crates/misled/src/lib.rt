@@ -52,15 +52,6 @@ fn one_from(w: u16, place: usize) -> usize
     place + zeros_in_front((w as u32) << (17 + place))
 }
 
-// The word at an index. (In a function of its own, so that its bytes become one load, and the loops below load eight
-// words at once.)
-fn word_at(body: &[u8], at: usize) -> u16
-    requires { ⌜ at + 2 ≤ length (now body) ⌝ }
-    ensures { λ r. ⌜ r ≡ le16 (now (body .entry)) at ⌝ }
-{
-    utils::pair(body[at + 1], body[at])
-}
-
 // How many positions so many words from an index on cover. Low and high bytes are added apart, since 16 bits hold
 // either sum.
 fn covered_in(body: &[u8], from: usize, n: usize) -> usize
@@ -71,7 +62,7 @@ fn covered_in(body: &[u8], from: usize, n: usize) -> usize
     let mut high: u16 = 0;
     let mut k: usize = 0;
     while k < n {
-        let c = chunk::covers(word_at(body, from + 2 * k));
+        let c = chunk::covers(little_endian::load16(body, from + 2 * k));
         low += c % 256;
         high += c / 256;
         k += 1;
@@ -96,7 +87,7 @@ fn outside_in(body: &[u8], from: usize, n: usize, start: u16) -> Outside
     let mut ones: u16 = 0;
     let mut k: usize = 0;
     while k < n {
-        let w = word_at(body, from + 2 * k);
+        let w = little_endian::load16(body, from + 2 * k);
         p = std::num::wrapping_add_u16(p, chunk::covers(w));
         ones = ones | (w & std::num::wrapping_sub_u16(w, 1));
         k += 1;
@@ -163,7 +154,7 @@ fn goes_on(body: &[u8], g: Range, end: u16) -> bool
             }
             singly = at + 512;
         }
-        let w = word_at(body, at);
+        let w = little_endian::load16(body, at);
         let covered = chunk::covers(w);
         if left < covered as usize {
             let q = one_from(w, left);

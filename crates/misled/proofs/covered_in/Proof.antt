@@ -23,7 +23,7 @@ loop-again c =
     let a = l .before .before .args in (
       omega (arith, w .before .loop-test .taken),
       adding-more (a .body .now) (a .from) (l .loop .k) (c .covers .result)
-          (rw (← w .word-at .ensures) (c .covers .ensures)) (l .loop .inv .1),
+          (rw (← w .load16 .ensures) (c .covers .ensures)) (l .loop .inv .1),
     )
 
 returns : tie.Need-returns Inv-loop μ-loop

@@ -26,11 +26,11 @@ head v = v .before .before .before .before
 
 -- the word at hand
 here : (v : tie.After-covers Inv-loop μ-loop) → let l = head v in
-    Word (entry l .args .body .now) (l .loop .at) (v .before .word-at .result) (v .covers .result)
+    Word (entry l .args .body .now) (l .loop .at) (v .before .load16 .result) (v .covers .result)
 here v = let w = v .before in
     record {
       within = w .before .before .loop-test .taken;
-      bytes = w .word-at .ensures;
+      bytes = w .load16 .ensures;
       covers = v .covers .ensures;
     }
 
@@ -48,8 +48,8 @@ loop-again c = let s = c .before .before in
     over (entry l .pre) (l .loop .inv) (s .stretch .ensures)
 
 -- two bytes are there
-word-at-requires : tie.Need-word-at-requires Inv-loop μ-loop
-word-at-requires c κs = let i = c .before in
+load16-requires : tie.Need-load16-requires Inv-loop μ-loop
+load16-requires c κs = let i = c .before in
     let l = i .before in
     let g = entry l .pre in
     omega (arith, i .loop-test .taken, l .loop .inv .index, g .items, g .ten)
@@ -86,7 +86,7 @@ pub goes-on-spec : {M : Type 1} → statement M
 goes-on-spec =
     tie.close
     (tie.spec Inv-loop μ-loop (λ c κs. search needs) loop-holds (λ c κs. search needs) loop-less loop-again
-    (λ c. search needs) word-at-requires (λ c κs. search needs) (λ c. search needs) one-from-requires
+    (λ c. search needs) load16-requires (λ c κs. search needs) (λ c. search needs) one-from-requires
     (λ c. search needs) (λ c. search needs) (λ c κs. search needs) (λ c. search needs) (λ c. search needs)
     (λ c κs. search needs) (λ c κs. search needs) returns (λ c. search needs) (λ c. search needs)
     (λ c κs. search needs) (λ c. search needs) (λ c. search needs) loop-again-2 returns-2)

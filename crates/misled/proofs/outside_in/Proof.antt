@@ -25,11 +25,11 @@ loop-holds c = let a = c .before .args in
 word-quiet : (c : tie.After-wrapping-sub-u16 Inv-loop μ-loop) → let w = c .before .before .before in
     let l = w .before .before in
     let a = l .before .before .args in
-    bitAnd (w .word-at .result) (c .wrapping-sub-u16 .result) < 16384
+    bitAnd (w .load16 .result) (c .wrapping-sub-u16 .result) < 16384
     → Quiet (le16 (a .body .now) (a .from + 2 * l .loop .k))
 word-quiet c = let w = c .before .before .before in
-    rw (← w .word-at .ensures)
-    (quiet-lowered (w .word-at .result) (c .wrapping-sub-u16 .result) (c .wrapping-sub-u16 .ensures) (omega arith))
+    rw (← w .load16 .ensures)
+    (quiet-lowered (w .load16 .result) (c .wrapping-sub-u16 .result) (c .wrapping-sub-u16 .ensures) (omega arith))
 
 loop-again : tie.Need-loop-again Inv-loop μ-loop
 loop-again c =
@@ -41,7 +41,7 @@ loop-again c =
       omega (arith, w .before .loop-test .taken),
       rw (v .wrapping-add-u16 .ensures)
           (gathering-more (a .body .now) (a .from) (l .loop .k) (n .covers .result)
-          (rw (← w .word-at .ensures) (n .covers .ensures)) _ (word-quiet c) (l .loop .inv .1)),
+          (rw (← w .load16 .ensures) (n .covers .ensures)) _ (word-quiet c) (l .loop .inv .1)),
     )
 
 returns : tie.Need-returns Inv-loop μ-loop
