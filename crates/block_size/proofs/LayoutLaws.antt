@@ -1,5 +1,4 @@
 -- How long a block is. Assumes nothing.
---     length-bytesOf          numbers of so many bytes each
 --     length-block-*          a block's length by its kind
 --     block-fits              a good record's block is no longer than the record
 --     block-least             and has at least its four header bytes
@@ -23,15 +22,8 @@ use Rattle.def_wire.specs.Block.{kindOf}
 use Rattle.def_jobs.specs.declared.Layout.{Layout}
 use Rattle.def_jobs.specs.Jobs.{Job, low32, jobWords, jobTimes, isBody, isBlockJob}
 use Rattle.def_jobs.specs.Layout.{bytesOf, zerosBehind, bytesAs, blockBytes}
-use Rattle.little_endian.proofs.LowLaws.{length-low32}
+use Rattle.little_endian.proofs.LowLaws.{length-low32, length-bytesOf}
 use Rattle.block_size.proofs.ZerosLaws.{length-words, length-times, zeros-most}
-
-pub length-bytesOf : (put : ℕ → List ℕ) (k : ℕ) → ((x : ℕ) → length (put x) ≡ k) → (xs : List ℕ)
-    → length (bytesOf put xs) ≡ length xs * k
-length-bytesOf put k h [] = sym (omega arith)
-length-bytesOf put k h (x ∷ xs) =
-    length-append (put x) (bytesOf put xs)
-    ∙ (let a = h x in let e = length-bytesOf put k h xs in omega (arith, a, e, suc-mul (length xs) k))
 
 -- so many bytes a block has by its kind
 module _ (layout : Layout) (j : Job) where

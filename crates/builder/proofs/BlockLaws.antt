@@ -16,10 +16,11 @@ use Rattle.def_jobs.specs.Layout.{head, withFields, wordsBytes, zerosBehind}
 use Rattle.utils.proofs.BytesLaws.{Bytes}
 use Rattle.utils.proofs.StoresLaws.{four-low}
 use Rattle.jobs.specs.Places.{jobOf}
+use Rattle.block_size.specs.Judged.{Fielded}
 use Rattle.block_size.proofs.ZerosLaws.{length-words, length-times, zeros-most}
-use Rattle.block_size.proofs.LayoutLaws.{length-bytesOf}
+use Rattle.little_endian.proofs.LowLaws.{length-bytesOf}
 use Rattle.swap.specs.Swapped.{swapped16, swapped32}
-use Rattle.builder.specs.Blocks.{fieldsIn, fieldsBytes, Fit, wordsBlock, timesBlock, clockBlock}
+use Rattle.builder.specs.Blocks.{fieldsIn, fieldsBytes, wordsBlock, timesBlock, clockBlock}
 use Rattle.frame.proofs.FrameLaws.{piece, told}
 
 -- the thinning's low byte is the whole thinning
@@ -55,20 +56,20 @@ with-fields body rest kind behind e w x =
     told (ap (λ (b : ℕ). fieldsBytes kind (fieldsIn body) b ++ rest) e) (and-then w x)
 
 -- whole items: so many bytes
-times-bytes : (body : List ℕ) → Fit body 4 → length (swapped32 (drop 10 body)) ≡ length body - 10
+times-bytes : (body : List ℕ) → Fielded body 4 → length (swapped32 (drop 10 body)) ≡ length body - 10
 times-bytes body f =
     let ts = jobTimes (jobOf 1 body) in
     omega (arith, length-bytesOf four 4 (λ x. refl) ts, length-times (jobOf 1 body), f .items)
 
-pub times-wrote : (body : List ℕ) {l m n : List ℕ} {at i j : ℕ} → Fit body 4
+pub times-wrote : (body : List ℕ) {l m n : List ℕ} {at i j : ℕ} → Fielded body 4
     → Wrote l at (fieldsBytes receiptType (fieldsIn body) (length body - 2)) m i
     → Wrote m i (swapped32 (drop 10 body)) n j → Wrote l at (timesBlock body) n j
 times-wrote body f w x =
     with-fields body (swapped32 (drop 10 body)) receiptType (length body - 2)
-    (omega (arith, f .whole, times-bytes body f)) w x
+    (omega (arith, f .ten, times-bytes body f)) w x
 
 -- words, and so many zero words behind them
-module _ (layout : Layout) (a : Rle) (body : List ℕ) (f : Fit body 2) (zeros : ℕ)
+module _ (layout : Layout) (a : Rle) (body : List ℕ) (f : Fielded body 2) (zeros : ℕ)
     (z : zeros ≡ zerosBehind layout (low16 (drop 10 body))) where
   pub few-zeros : zeros ≤ 2
   few-zeros = rw z (zeros-most (low16 (drop 10 body)) layout)
@@ -95,5 +96,5 @@ module _ (layout : Layout) (a : Rle) (body : List ℕ) (f : Fit body 2) (zeros :
     words-wrote x y =
         rw (← e)
         (with-fields body (wordsBytes layout (low16 (drop 10 body))) kind (length body - 2 + 2 * zeros)
-        (omega (arith, f .whole, words-bytes, behind-bytes)) w
+        (omega (arith, f .ten, words-bytes, behind-bytes)) w
         (and-then x (told (ap (λ (k : ℕ). replicate (2 * k) 0) z) y)))

@@ -1,9 +1,7 @@
 -- The parts of a block of each kind, as the builders write them, over a record's body alone.
 --     fieldsIn, fieldsBytes     SSRC, begin, end and thinning of kinds 1 to 3, and a block's bytes down to them
---     Fit                       a body has its fields and whole items of so many bytes
 --     wordsBlock, timesBlock, clockBlock, echoesBlock     def_jobs' `bytesAs` for a body of each kind
-use Prim.Native.Nat.{ℕ, _-_, _%_, _≤_}
-use mathlib.Core.Path.{_≡_}
+use Prim.Native.Nat.{ℕ}
 use mathlib.Core.List.{List, _++_}
 use lib.ListN.{length, drop}
 use Rattle.def_wire.specs.declared.Fields.{Fields}
@@ -20,11 +18,6 @@ fieldsIn body = jobFields (jobOf 1 body)
 
 abbrev pub fieldsBytes : ℕ → Fields → ℕ → List ℕ
 fieldsBytes type f behind = head type (f .thinning) behind ++ (four (f .ssrc) ++ (two (f .begin) ++ two (f .end)))
-
-pub record Fit (body : List ℕ) (bytes : ℕ) : Type 0 where
-  pub whole : 10 ≤ length body
-  pub thin : fieldsIn body .thinning ≤ 15
-  pub items : (length body - 10) % bytes ≡ 0
 
 abbrev pub wordsBlock : Rle → Layout → List ℕ → List ℕ
 wordsBlock a layout body = withFields (rleType a) (fieldsIn body) (wordsBytes layout (low16 (drop 10 body)))

@@ -3,13 +3,14 @@
 // numbers come from a record's little-endian body.
 ghost use mathlib.Core.Path.{_≡_};
 ghost use mathlib.Core.Bool.{true};
-ghost use Prim.Native.Nat.{_+_, _≤_};
-ghost use lib.ListN.{length};
+ghost use Prim.Native.Nat.{_+_, _*_, _≤_};
+ghost use lib.ListN.{length, replicate};
 ghost use Rattle.laws.specs.Stores.{Wrote};
 ghost use Rattle.def_jobs.specs.Jobs.{isBlockJob};
 ghost use Rattle.def_jobs.specs.Layout.{head, blockBytes};
 ghost use Rattle.jobs.specs.Places.{jobOf};
-ghost use Rattle.builder.specs.Blocks.{fieldsIn, fieldsBytes, Fit, wordsBlock, timesBlock, clockBlock};
+ghost use Rattle.block_size.specs.Judged.{Fielded};
+ghost use Rattle.builder.specs.Blocks.{fieldsIn, fieldsBytes, wordsBlock, timesBlock, clockBlock};
 ghost use Rattle.builder.specs.Blocks.{echoesBlock};
 use def_jobs::Layout;
 use def_wire::Kind;
@@ -48,21 +49,45 @@ fn put_fields(out: &mut [u8], at: usize, kind: u8, body: &[u8], behind: usize) -
     end + 2
 }
 
+// None, one or two zero words.
+fn zero_words(out: &mut [u8], at: usize, words: usize) -> usize
+    requires { ⌜ (words ≤ 2) × (at + 2 * words ≤ length (now out)) ⌝ }
+    ensures { λ r. ⌜ Wrote (now (out .entry)) at (replicate (2 * words) 0) (now (out .exit)) r ⌝ }
+{
+    if words == 0 {
+        return at;
+    }
+    out[at] = 0;
+    out[at + 1] = 0;
+    if words == 1 {
+        return at + 2;
+    }
+    out[at + 2] = 0;
+    out[at + 3] = 0;
+    at + 4
+}
+
 // A block of type 1 or 2: fields, words, and the zero words behind them. Port of: rle.rs RleBuilder; differs: the
 // careful layout is the same with another count of zero words.
 fn write_words(layout: Layout, a: Rle, body: &[u8], out: &mut [u8], at: usize) -> usize
-    requires { ⌜ Fit (now body) 2 × (at + length (wordsBlock a layout (now body)) ≤ length (now out)) ⌝ }
+    requires { ⌜ Fielded (now body) 2 × (at + length (wordsBlock a layout (now body)) ≤ length (now out)) ⌝ }
     ensures { λ r. ⌜ Wrote (now (out .entry)) at (wordsBlock a layout (now (body .entry))) (now (out .exit)) r ⌝ }
 {
-    let zeros = 2 * block_size::zeros_behind(layout, body);
-    let words = put_fields(out, at, records::rle_type(a), body, body.len() - 2 + zeros);
+    let zeros = block_size::zeros_behind(layout, body);
+    let words = put_fields(
+        out,
+        at,
+        records::rle_type(a),
+        body,
+        body.len() - 2 + 2 * zeros,
+    );
     let end = swap::swap16(body, 10, out, words);
-    frame::zero_bytes(out, end, zeros)
+    zero_words(out, end, zeros)
 }
 
 // A block of type 3: fields and times. Port of: packet_receipt_time.rs PacketReceiptTimesBuilder.
 fn write_times(body: &[u8], out: &mut [u8], at: usize) -> usize
-    requires { ⌜ Fit (now body) 4 × (at + length (timesBlock (now body)) ≤ length (now out)) ⌝ }
+    requires { ⌜ Fielded (now body) 4 × (at + length (timesBlock (now body)) ≤ length (now out)) ⌝ }
     ensures { λ r. ⌜ Wrote (now (out .entry)) at (timesBlock (now (body .entry))) (now (out .exit)) r ⌝ }
 {
     let times = put_fields(

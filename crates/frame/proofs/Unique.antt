@@ -4,7 +4,6 @@ use mathlib.Core.Path.{sym, _∙_}
 use contract.Lifetimes.{Lfts}
 use Rattle.laws.proofs.Determined.{Fixes}
 use Rattle.frame.proofs.write_header.Reads as write-header
-use Rattle.frame.proofs.zero_bytes.Reads as zero-bytes
 use Rattle.frame.proofs.write_padding.Reads as write-padding
 
 pub write-header-unique : (κs : Lfts 1) → Fixes (write-header.Post κs) (λ r s. r)
@@ -12,12 +11,6 @@ write-header-unique κs a r₁ r₂ s₁ s₂ p q = p .past ∙ sym (q .past)
 
 pub write-header-unique-out : (κs : Lfts 1) → Fixes (write-header.Post κs) (λ r s. s .0 .now)
 write-header-unique-out κs a r₁ r₂ s₁ s₂ p q = p .stored ∙ sym (q .stored)
-
-pub zero-bytes-unique : (κs : Lfts 1) → Fixes (zero-bytes.Post κs) (λ r s. r)
-zero-bytes-unique κs a r₁ r₂ s₁ s₂ p q = p .past ∙ sym (q .past)
-
-pub zero-bytes-unique-out : (κs : Lfts 1) → Fixes (zero-bytes.Post κs) (λ r s. s .0 .now)
-zero-bytes-unique-out κs a r₁ r₂ s₁ s₂ p q = p .stored ∙ sym (q .stored)
 
 pub write-padding-unique : (κs : Lfts 1) → Fixes (write-padding.Post κs) (λ r s. r)
 write-padding-unique κs a r₁ r₂ s₁ s₂ p q = p .past ∙ sym (q .past)

@@ -30,7 +30,7 @@ pub fn write_header(out: &mut [u8], padding: usize, size: usize, sender: u32) ->
 }
 
 // So many zero bytes.
-pub fn zero_bytes(out: &mut [u8], at: usize, count: usize) -> usize
+fn zero_bytes(out: &mut [u8], at: usize, count: usize) -> usize
     requires { ⌜ at + count ≤ length (now out) ⌝ }
     ensures { λ r. ⌜ Wrote (now (out .entry)) at (replicate count 0) (now (out .exit)) r ⌝ }
 {

@@ -4,17 +4,19 @@
 --     length-low16, ..         how many words a list of bytes has
 --     getD-low16               a word is the number of its two bytes
 --     pairLow-cons, ..         words one by one, from an index on
+--     length-bytesOf           how many bytes numbers of so many bytes each are written as
 use Prim.Native.Nat.{ℕ, zero, suc, _+_, _*_, _/_, _≤_, _<_, min}
 use mathlib.Core.Path.{_≡_, refl, sym, ap, ap₂, _∙_}
 use mathlib.Core.List.{List, [], _∷_}
-use native.Mathlib.Nat.{add-assoc, add-zero}
+use native.Mathlib.Nat.{add-assoc, add-zero, suc-mul}
 use native.Mathlib.Numerals.{add-one}
 use native.Mathlib.Omega.{arith}
-use lib.ListN.{length, getD, drop, List·getD-eq-default}
+use lib.ListN.{length, getD, drop, length-append, List·getD-eq-default}
 use lib.Seq.{getD-drop, drop-cons}
 use Rattle.utils.proofs.PartLaws.{drop-cut}
 use Rattle.def_wire.specs.Bytes.{byteAt}
-use Rattle.def_jobs.specs.Jobs.{le16, le32, le64, pairLow, low16, low32}
+use Rattle.def_jobs.specs.Jobs.{le16, le32, pairLow, low16, low32}
+use Rattle.def_jobs.specs.Layout.{bytesOf}
 
 -- ---- numbers
 
@@ -30,9 +32,6 @@ le16-past s at h = omega (arith, byteAt-past s at h, byteAt-past s (at + 1) (ome
 
 pub le32-past : (s : List ℕ) (at : ℕ) → length s ≤ at → le32 s at ≡ 0
 le32-past s at h = omega (arith, le16-past s at h, le16-past s (at + 2) (omega arith))
-
-pub le64-past : (s : List ℕ) (at : ℕ) → length s ≤ at → le64 s at ≡ 0
-le64-past s at h = omega (arith, le32-past s at h, le32-past s (at + 4) (omega arith))
 
 -- in what is left from k on
 pub le16-drop : (k : ℕ) (s : List ℕ) (i : ℕ) → le16 (drop k s) i ≡ le16 s (k + i)
@@ -103,3 +102,12 @@ low32-cons s at h =
     let i : at + 2 ≤ length s = omega arith in
     let j : at + 2 + 2 ≤ length s = omega arith in
     rw (e, pairLow-cons 256 s at i, pairLow-cons 256 s (at + 2) j)
+
+-- ---- numbers written as bytes
+
+pub length-bytesOf : (put : ℕ → List ℕ) (k : ℕ) → ((x : ℕ) → length (put x) ≡ k) → (xs : List ℕ)
+    → length (bytesOf put xs) ≡ length xs * k
+length-bytesOf put k h [] = sym (omega arith)
+length-bytesOf put k h (x ∷ xs) =
+    length-append (put x) (bytesOf put xs)
+    ∙ (let a = h x in let e = length-bytesOf put k h xs in omega (arith, a, e, suc-mul (length xs) k))

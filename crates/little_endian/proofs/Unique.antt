@@ -7,7 +7,6 @@ use Rattle.little_endian.proofs.load16.Reads as load16
 use Rattle.little_endian.proofs.load32.Reads as load32
 use Rattle.little_endian.proofs.u16_from_le_bytes.Reads as u16-from-le-bytes
 use Rattle.little_endian.proofs.u32_from_le_bytes.Reads as u32-from-le-bytes
-use Rattle.little_endian.proofs.u64_from_le_bytes.Reads as u64-from-le-bytes
 
 pub load16-unique : (κs : Lfts 1) → Fixes (load16.Post κs) (λ r s. r)
 load16-unique κs a r₁ r₂ s₁ s₂ p q = p ∙ sym q
@@ -20,6 +19,3 @@ u16-from-le-bytes-unique κs a r₁ r₂ s₁ s₂ p q = p ∙ sym q
 
 pub u32-from-le-bytes-unique : (κs : Lfts 1) → Fixes (u32-from-le-bytes.Post κs) (λ r s. r)
 u32-from-le-bytes-unique κs a r₁ r₂ s₁ s₂ p q = p ∙ sym q
-
-pub u64-from-le-bytes-unique : (κs : Lfts 1) → Fixes (u64-from-le-bytes.Post κs) (λ r s. r)
-u64-from-le-bytes-unique κs a r₁ r₂ s₁ s₂ p q = p ∙ sym q

@@ -3,7 +3,7 @@
 ghost use mathlib.Core.Path.{_≡_};
 ghost use Prim.Native.Nat.{_+_, _≤_};
 ghost use lib.ListN.{length};
-ghost use Rattle.def_jobs.specs.Jobs.{le16, le32, le64};
+ghost use Rattle.def_jobs.specs.Jobs.{le16, le32};
 
 // The loads where every byte is inside.
 pub fn load16(s: &[u8], at: usize) -> u16
@@ -18,13 +18,6 @@ pub fn load32(s: &[u8], at: usize) -> u32
     ensures { λ r. ⌜ r ≡ le32 (now (s .entry)) at ⌝ }
 {
     utils::join16(load16(s, at + 2), load16(s, at))
-}
-
-fn load64(s: &[u8], at: usize) -> u64
-    requires { ⌜ at + 8 ≤ length (now s) ⌝ }
-    ensures { λ r. ⌜ r ≡ le64 (now (s .entry)) at ⌝ }
-{
-    utils::join32(load32(s, at + 4), load32(s, at))
 }
 
 // The little-endian number of two bytes at an index.
@@ -49,19 +42,6 @@ pub fn u32_from_le_bytes(s: &[u8], at: usize) -> u32
             return load32(s, at);
         }
         return utils::join16(u16_from_le_bytes(s, at + 2), u16_from_le_bytes(s, at));
-    }
-    0
-}
-
-// Eight bytes.
-pub fn u64_from_le_bytes(s: &[u8], at: usize) -> u64
-    ensures { λ r. ⌜ r ≡ le64 (now (s .entry)) at ⌝ }
-{
-    if at < s.len() {
-        if 8 <= s.len() - at {
-            return load64(s, at);
-        }
-        return utils::join32(u32_from_le_bytes(s, at + 4), u32_from_le_bytes(s, at));
     }
     0
 }

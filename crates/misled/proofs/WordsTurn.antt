@@ -20,9 +20,10 @@ use lib.Dec.{ltb}
 use borrow.Author.Tests.{lt-ltb, le-ltb}
 use Rattle.def_standard.specs.declared.Range.{Range}
 use Rattle.def_standard.specs.Chunks.{coversOf}
-use Rattle.def_standard.specs.Range.{offsetOf, numberOf}
+use Rattle.def_standard.specs.Range.{numberOf}
 use Rattle.def_crate.specs.Sequence.{passes}
 use Rattle.range.specs.Inside.{insideCount}
+use Rattle.range.proofs.NumberLaws.{numberOf-circle}
 use Rattle.def_jobs.specs.Jobs.{le16, jobWords}
 use Rattle.little_endian.proofs.LowLaws.{getD-low16, le16-drop}
 use Rattle.jobs.specs.Places.{jobOf}
@@ -51,17 +52,6 @@ pub record Word (body : List ℕ) (at w n : ℕ) : Type 0 where
   pub within : at < length body
   pub bytes : w ≡ le16 body at
   pub covers : n ≡ coversOf w
-
--- a position's number is that of its place on the circle
-numberOf-circle : (g : Range) (p q : ℕ) → numberOf g (p % 65536 + q) ≡ numberOf g (p + q)
-unfolding numberOf offsetOf
-numberOf-circle g p q =
-    let t = 2 ^ (g .thinning) in
-    let n = p / 65536 in
-    let r = p % 65536 in
-    let e : g .begin + (65536 * n + r + q) * t ≡ g .begin + (r + q) * t + 65536 * (n * t) = omega arith in
-    sym (ap (λ (x : ℕ). (g .begin + (x + q) * t) % 65536) (sym (div-add-mod p 65536))
-    ∙ ap (λ (x : ℕ). x % 65536) e ∙ add-mul-mod-self-left (g .begin + (r + q) * t) 65536 (n * t))
 
 pub begin : (g : Range) (end : ℕ) (body : List ℕ) → Passing g end body (insideCount g) 0 10
 begin g end body =

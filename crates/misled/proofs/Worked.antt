@@ -4,10 +4,12 @@
 --     Words, words-hold               types 1 and 2
 --     OfTimes, times-hold             type 3
 --     Entries, entries-hold           type 5
+--     Others, others-hold             clocks, and records that ask for no block
+--     First, first-hold               15 with the first of several records, and what stands behind each
 use Prim.Native.Nat.{ℕ, _*_, _/_, _%_}
 use mathlib.Core.Path.{_≡_, refl}
 use mathlib.Core.Bool.{Bool, true, false}
-use mathlib.Core.List.{List, [], _∷_}
+use mathlib.Core.List.{List, [], _∷_, _++_}
 use lib.ListN.{replicate}
 use Rattle.def_wire.specs.Block.{rleOf, rangedOf, kindOf}
 use Rattle.def_standard.specs.Chunks.{valuesIn}
@@ -15,9 +17,12 @@ use Rattle.def_standard.specs.Range.{rangeOf, offsetOf, inside, numberOf}
 use Rattle.def_crate.specs.Sequence.{passes}
 use Rattle.range.specs.Inside.{ceilDiv, insideCount}
 use Rattle.range.specs.Failing.{firstFail}
-use Rattle.def_jobs.specs.Jobs.{pairLow, isBlockJob}
+use Rattle.def_refusals.specs.declared.Refusal.the-variants.{Misleads}
+use Rattle.def_refusals.specs.declared.Checked.the-variants.{Fine, Unfit}
+use Rattle.def_jobs.specs.Jobs.{Job, pairLow, isBlockJob}
+use Rattle.def_jobs.specs.Layout.{blockBytes, blocksBytes}
 use Rattle.jobs.specs.Places.{jobOf}
-use Rattle.misled.specs.Misled.{outsideFrom, goesOn, misledTimes, misledEchoes, misledBy}
+use Rattle.misled.specs.Misled.{outsideFrom, goesOn, misledTimes, misledEchoes, misledBy, misledFault}
 
 -- numbers of two bytes, the least significant first
 abbrev pub low : List ℕ → List ℕ
@@ -75,3 +80,33 @@ pub record Entries : Type 0 where
 pub entries-hold : Entries
 unfolding rleOf rangedOf kindOf isBlockJob misledEchoes misledBy
 entries-hold = record { one = (refl, refl); two = refl; five = refl }
+
+-- a clock misleads nobody; nor does a record that is bad, though a good one of its kind would: 13 bytes of entries, a
+-- thinning of 16, an odd byte of words, a kind that no block has
+pub record Others : Type 0 where
+  pub clock : misledBy (jobOf 4 (replicate 8 0)) 12 ≡ false
+  pub bad-entries : misledBy (jobOf 5 (replicate 13 0)) 12 ≡ false
+  pub bad-thinning : loss 10 12 16 (16386 ∷ 16385 ∷ []) ≡ false
+  pub bad-words : misledBy (jobOf 1 (low (7 ∷ 0 ∷ 10 ∷ 12 ∷ 0 ∷ 16386 ∷ 16385 ∷ []) ++ (0 ∷ []))) 0 ≡ false
+  pub no-kind : misledBy (jobOf 6 (replicate 12 0)) 12 ≡ false
+
+pub others-hold : Others
+unfolding rleOf rangedOf kindOf isBlockJob misledEchoes misledBy
+others-hold = record { clock = refl; bad-entries = refl; bad-thinning = refl; bad-words = refl; no-kind = refl }
+
+-- one entry, a clock of 12 bytes, and an entry that stands last
+abbrev pub echo : Job
+echo = jobOf 5 (replicate 12 0)
+
+abbrev pub clock : Job
+clock = jobOf 4 (replicate 8 0)
+
+pub record First : Type 0 where
+  pub none : misledFault 0 (clock ∷ clock ∷ echo ∷ []) ≡ Fine
+  pub second : misledFault 0 (clock ∷ echo ∷ clock ∷ []) ≡ Unfit (Misleads 1)
+  -- the first of two; counted from the given index on
+  pub first : misledFault 3 (echo ∷ echo ∷ clock ∷ []) ≡ Unfit (Misleads 3)
+
+pub first-hold : First
+unfolding rleOf rangedOf kindOf isBlockJob misledEchoes misledBy misledFault pairLow blockBytes blocksBytes
+first-hold = record { none = refl; second = refl; first = refl }

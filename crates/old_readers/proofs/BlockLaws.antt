@@ -1,5 +1,5 @@
 -- What 15 comes to for the block of any record, whatever stands behind it. Assumes nothing.
-use Prim.Native.Nat.{ℕ, _%_, _≤_}
+use Prim.Native.Nat.{ℕ, _≤_}
 use mathlib.Core.Path.{_≡_}
 use mathlib.Core.Bool.{true}
 use mathlib.Core.List.{List, _++_}
@@ -23,21 +23,21 @@ use Rattle.old_readers.proofs.ChunksLaws.{chunks-mislead}
 use Rattle.old_readers.proofs.TimesLaws.{times-mislead}
 use Rattle.old_readers.proofs.OtherLaws.{clock-misleads-never, echoes-mislead}
 
-by-kind : (k : KindOr) (j : Job) → isBody k j ≡ true → Body j → (rest : List ℕ) → length rest % 4 ≡ 0
+by-kind : (k : KindOr) (j : Job) → isBody k j ≡ true → Body j → (rest : List ℕ)
     → length (bytesAs k Careful j ++ rest) ≤ maxBytes
     → differs (recordOf Crate (bytesAs k Careful j ++ rest)) (recordOf Standard (bytesAs k Careful j))
     ≡ misledAs k j (length rest)
-by-kind (AKind (Spans (Chunks a))) j g b rest m h =
+by-kind (AKind (Spans (Chunks a))) j g b rest h =
     let v = bytesAs (AKind (Spans (Chunks a))) Careful j in
     chunks-mislead a j g b rest (omega (arith, length-append v rest, h))
-by-kind (AKind (Spans Times)) j g b rest m h = times-mislead j g b rest m h
-by-kind (AKind Clock) j g b rest m h = clock-misleads-never j b rest
-by-kind (AKind Echoes) j g b rest m h = echoes-mislead j g b rest m h
-by-kind NoKind j g b rest m h = true≢false g
+by-kind (AKind (Spans Times)) j g b rest h = times-mislead j g b rest h
+by-kind (AKind Clock) j g b rest h = clock-misleads-never j b rest
+by-kind (AKind Echoes) j g b rest h = echoes-mislead j g b rest h
+by-kind NoKind j g b rest h = true≢false g
 
-pub block-misleads : (j : Job) → isBlockJob j ≡ true → Body j → (rest : List ℕ) → length rest % 4 ≡ 0
+pub block-misleads : (j : Job) → isBlockJob j ≡ true → Body j → (rest : List ℕ)
     → length (blockBytes Careful j ++ rest) ≤ maxBytes
     → differs (recordOf Crate (blockBytes Careful j ++ rest)) (recordOf Standard (blockBytes Careful j))
     ≡ misledBy j (length rest)
 unfolding isBlockJob blockBytes misledBy
-block-misleads j g b rest m h = rw g (by-kind (kindOf (j .kind)) j g b rest m h)
+block-misleads j g b rest h = rw g (by-kind (kindOf (j .kind)) j g b rest h)

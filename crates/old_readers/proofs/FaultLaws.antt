@@ -1,7 +1,7 @@
 -- 15 of a carefully laid out packet, by its records. Assumes nothing.
 --     misleads-at       without padding, block k misleads where its record does with the bytes behind its block
 --     careful-fault     15 is what the records say; with padding it never applies
-use Prim.Native.Nat.{ℕ, zero, suc, _+_, _-_, _%_, _≤_, _<_}
+use Prim.Native.Nat.{ℕ, zero, suc, _+_, _≤_, _<_}
 use mathlib.Core.Path.{_≡_, refl, ap}
 use mathlib.Core.Bool.{cond}
 use mathlib.Core.List.{List, _++_}
@@ -22,9 +22,9 @@ use Rattle.def_jobs.specs.Jobs.{Job, cutJob, askedPadding}
 use Rattle.def_jobs.specs.Layout.{blockBytes, blocksBytes}
 use Rattle.def_jobs.specs.Writing.{maxBytes, misleads, misleadingFrom, misleadFault}
 use Rattle.misled.specs.Misled.{misledBy, misledFault}
-use Rattle.written.proofs.Lists.{Each, each-at, each-drop}
+use Rattle.written.proofs.Lists.{Each, each-at}
 use Rattle.written.proofs.RecordsLaws.{Body, Good, Fit}
-use Rattle.written.proofs.Shows.{joined-blocks, whole-blocks, view-at}
+use Rattle.written.proofs.Shows.{view-at}
 use Rattle.old_readers.proofs.BlockLaws.{block-misleads}
 use Rattle.old_readers.proofs.PacketLaws.{crate-stands, crate-view}
 use Rattle.old_readers.proofs.PaddedLaws.{crate-padded}
@@ -51,11 +51,8 @@ module _ (h : Job) (js : List Job) (s : List ℕ) (w : Fit Careful h js s) (bh :
           length-drop (placeOf s k) s,
           w .small,
         ) in
-        let whole : length rest % 4 ≡ 0 =
-        rw (joined-blocks Careful (drop (suc k) js)) (whole-blocks Careful (drop (suc k) js)
-        (each-drop Good (suc k) js (w .blocks)) (each-drop Body (suc k) js b)) in
         rw (crate-view h js s w bh b z some k l, view-at Careful h js s w bh b k l)
-        (block-misleads j (each-at Good cutJob js k (w .blocks) l) (each-at Body cutJob js k b l) rest whole small)
+        (block-misleads j (each-at Good cutJob js k (w .blocks) l) (each-at Body cutJob js k b l) rest small)
 
     misleading-at : (n k : ℕ) → k + n ≡ length js → misleadingFrom s k n ≡ misledFault k (drop k js)
     unfolding misleadingFrom misledFault

@@ -26,6 +26,7 @@ use Rattle.range.specs.Failing.{gapOf}
 use Rattle.range.proofs.InsideLaws.{inside-count}
 use Rattle.range.proofs.FailLaws.{gap-high, passes-near}
 use Rattle.range.proofs.SequenceLaws.{moved-sequence}
+use Rattle.range.proofs.NumberLaws.{numberOf-zero, numberOf-on}
 use Rattle.ones.specs.Places.{numbersIn}
 use Rattle.ones.proofs.NumbersLaws.{numbers-nil, numbers-cons, numbersIn-outside, numbers-outside}
 use Rattle.misled.specs.Misled.{outsideFrom, goesOn, misledWords}
@@ -73,18 +74,13 @@ module _ (f : Fields) (begin-fits : f .begin < 65536) (end-fits : f .end < 65536
 
   -- position 0 has the number begin
   number-first : numberOf g 0 ≡ f .begin
-  unfolding numberOf offsetOf rangeOf
-  number-first = let z : f .begin + 0 * 2 ^ t ≡ f .begin = omega arith in rw z (mod-eq-of-lt begin-fits)
+  unfolding rangeOf
+  number-first = numberOf-zero g begin-fits
 
   -- a place's number, tried from position p's, is that of the position as many on
   number-on : (p q : ℕ) → sequenceOf q (numberOf g p) t ≡ numberOf g (p + q)
-  unfolding numberOf offsetOf rangeOf
-  number-on p q =
-      let m = 2 ^ t in
-      let e : (p + q) * m ≡ p * m + q * m = omega arith in
-      let k : (q * m % 65536 + (f .begin + p * m) % 65536) % 65536 ≡ (f .begin + (p * m + q * m)) % 65536 =
-      omega arith in
-      rw e k
+  unfolding rangeOf
+  number-on p q = numberOf-on g p q
 
   -- and passes where that is inside
   inside-passes : (p q : ℕ) → inside g (p + q) ≡ true

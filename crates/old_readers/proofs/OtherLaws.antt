@@ -14,7 +14,7 @@ use Rattle.def_refusals.specs.Answers.{shown}
 use Rattle.def_wire.specs.declared.Reading.the-variants.{Standard, Crate}
 use Rattle.def_wire.specs.declared.Kind.the-variants.{Clock, Echoes}
 use Rattle.def_wire.specs.declared.KindOr.the-variants.{AKind}
-use Rattle.def_wire.specs.Bytes.{words32, eight}
+use Rattle.def_wire.specs.Bytes.{words32, four, eight}
 use Rattle.def_wire.specs.Block.{clockType, blockLength, rleOf, rangedOf, kindOf, crateRule, fitness, checkOf, timeOf}
 use Rattle.def_standard.specs.Standard.{echoesOf}
 use Rattle.def_questions.specs.Questions.{entriesShown}
@@ -24,9 +24,9 @@ use Rattle.def_jobs.specs.Shown.{clocked, echoed, recordOf, echoRow, numbersRow
 use Rattle.def_jobs.specs.Layout.{head, bytesAs}
 use Rattle.def_jobs.specs.Writing.{maxBytes, differs}
 use Rattle.utils.proofs.BytesLaws.{be64-eight, length-words32}
-use Rattle.little_endian.proofs.LowLaws.{length-low32}
+use Rattle.little_endian.proofs.LowLaws.{length-low32, length-bytesOf}
 use Rattle.misled.specs.Misled.{misledEchoes}
-use Rattle.written.proofs.WordsLaws.{under-low32, words32-behind, length-four}
+use Rattle.written.proofs.WordsLaws.{under-low32, words32-behind}
 use Rattle.written.proofs.WalkLaws.{length-stands}
 use Rattle.written.proofs.RecordsLaws.{Body}
 use Rattle.written.proofs.BlockLaws.{clock-laid}
@@ -99,7 +99,7 @@ module _ (j : Job) where
     length-body = omega (arith, eqb-true (length (j .body) % 12) 0 good)
 
     length-block : length block ≡ 4 + 12 * entries
-    length-block = omega (arith, length-four (low32 (j .body)), length-low32 (j .body), length-body)
+    length-block = omega (arith, length-bytesOf four 4 (λ x. refl) (low32 (j .body)), length-low32 (j .body), length-body)
 
     module _ (rest : List ℕ) (small : length (block ++ rest) ≤ maxBytes) where
       announced : blockLength (block ++ rest) ≡ 4 + 12 * entries
@@ -126,12 +126,12 @@ module _ (j : Job) where
           (either (leb 16 (length (block ++ rest))) (λ long. rw long) (λ short. rw short))
 
 pub echoes-mislead : (j : Job) → eqb (length (j .body) % 12) 0 ≡ true → Body j → (rest : List ℕ)
-    → length rest % 4 ≡ 0 → length (bytesAs (AKind Echoes) Careful j ++ rest) ≤ maxBytes
+    → length (bytesAs (AKind Echoes) Careful j ++ rest) ≤ maxBytes
     → differs (recordOf Crate (bytesAs (AKind Echoes) Careful j ++ rest))
     (recordOf Standard (bytesAs (AKind Echoes) Careful j))
     ≡ misledEchoes (length (j .body) / 12) (length rest)
 unfolding misledEchoes numbersRow
-echoes-mislead j good body rest whole small =
+echoes-mislead j good body rest small =
     let own = low32 (j .body) in
     let m : length own % 3 ≡ 0 = omega (arith, length-low32 (j .body), length-body j good body) in
     either (eqb (entries j % 4) 1)

@@ -29,13 +29,14 @@ use Rattle.def_jobs.specs.Shown.{Record, received, recordOf, receiptRow, sameRo
 use Rattle.def_jobs.specs.Layout.{bytesOf, bytesAs}
 use Rattle.def_jobs.specs.Writing.{maxBytes, differs}
 use Rattle.utils.proofs.BytesLaws.{length-words32}
+use Rattle.little_endian.proofs.LowLaws.{length-bytesOf}
 use Rattle.range.specs.Inside.{insideCount}
 use Rattle.range.specs.Failing.{firstFail, never}
 use Rattle.packet_receipt_time.specs.Pairs.{firstPairs}
 use Rattle.packet_receipt_time.proofs.PairsLaws.{first-all, pairs-standard, pairs-crate}
 use Rattle.misled.specs.Misled.{misledTimes}
 use Rattle.written.proofs.Lists.{under-drop}
-use Rattle.written.proofs.WordsLaws.{under-low32, words32-behind, length-four}
+use Rattle.written.proofs.WordsLaws.{under-low32, words32-behind}
 use Rattle.written.proofs.RecordsLaws.{Body}
 use Rattle.written.proofs.BlockLaws.{fields-back}
 use Rattle.written.proofs.JobLaws.{job-fits, laid-as}
@@ -104,7 +105,7 @@ module _ (j : Job) where
           length-append own (words32 rest),
           length-words32 rest,
           length-append (bytesOf four own) rest,
-          length-four own,
+          length-bytesOf four 4 (λ x. refl) own,
         ) in
         rw (le-ltb _ _ long)
         (ap₂ (λ (f : Fields) (ts : List ℕ). shown (received f (cratePairsFrom f 0 ts)))
@@ -113,13 +114,13 @@ module _ (j : Job) where
         (rw sub-zero at
         (pairs-crate (jobFields j) (fits .begin) (fits .end) 0 (own ++ words32 rest) few (omega arith))))
 
-pub times-mislead : (j : Job) → hasFields j 4 ≡ true → Body j → (rest : List ℕ) → length rest % 4 ≡ 0
+pub times-mislead : (j : Job) → hasFields j 4 ≡ true → Body j → (rest : List ℕ)
     → length (bytesAs (AKind (Spans Times)) Careful j ++ rest) ≤ maxBytes
     → differs (recordOf Crate (bytesAs (AKind (Spans Times)) Careful j ++ rest))
     (recordOf Standard (bytesAs (AKind (Spans Times)) Careful j))
     ≡ misledTimes (jobFields j) (length (jobTimes j)) (length (jobTimes j) + length rest / 4)
 unfolding misledTimes
-times-mislead j good body rest whole small =
+times-mislead j good body rest small =
     let g = rangeOf (jobFields j) in
     let own = jobTimes j in
     let all = own ++ words32 rest in

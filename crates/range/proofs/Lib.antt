@@ -1,6 +1,7 @@
--- SequenceLaws (doublings and the crate's test), InsideLaws (which positions are inside), FailLaws (where the crate's
--- test fails), NextLaws (the same after the start has moved on).
+-- SequenceLaws (doublings and the crate's test), NumberLaws (a position's number), InsideLaws (which positions are
+-- inside), FailLaws (where the crate's test fails), NextLaws (the same after the start has moved on).
 pub mod SequenceLaws
+pub mod NumberLaws
 pub mod InsideLaws
 pub mod FailLaws
 pub mod NextLaws

@@ -6,7 +6,6 @@ use Prim.Native.Nat.{ℕ, _+_, _*_, _-_, _%_, _^_, _≤_, _<_}
 use mathlib.Core.Path.{_≡_, refl, sym, ap}
 use mathlib.Core.Bool.{cond}
 use mathlib.Core.List.{List, []}
-use native.Mathlib.Nat.{mod-add-mod, add-mod-mod, mod-eq-of-lt}
 use native.Mathlib.Omega.{arith}
 use lib.ListN.{length, take, drop}
 use lib.Dec.{leb}
@@ -15,11 +14,12 @@ use Rattle.laws.proofs.Tests.{either}
 use Rattle.def_wire.specs.Bytes.{words16, be16}
 use Rattle.def_standard.specs.declared.Range.{Range}
 use Rattle.def_standard.specs.Chunks.{coversOf, valuesIn}
-use Rattle.def_standard.specs.Range.{numberOf, offsetOf, circle}
+use Rattle.def_standard.specs.Range.{numberOf}
 use Rattle.def_standard.specs.Standard.{numbersFrom}
 use Rattle.def_crate.specs.Sequence.{movedBy}
 use Rattle.range.specs.Inside.{insideCount}
 use Rattle.range.specs.Steps.{stepOf}
+use Rattle.range.proofs.NumberLaws.{numberOf-zero, numberOf-moved}
 use Rattle.ones.specs.Along.{along}
 use Rattle.ones.proofs.NumbersLaws.{numbers-nil, numbers-cons, numbers-along, numbers-outside}
 use Rattle.rle_words.proofs.Turn.{words-end, words-cons, Turn}
@@ -36,23 +36,12 @@ here g bytes at left = numbersFrom g (insideCount g - left) (words16 (drop at by
 abbrev pub added : Range → ℕ → ℕ → ℕ → List ℕ
 added g w left first = along (stepOf (g .thinning)) first (take left (valuesIn w))
 
--- the number as many positions on
-numberOf-moved : (g : Range) (p n : ℕ) → numberOf g (p + n) ≡ movedBy n (g .thinning) (numberOf g p)
-unfolding numberOf offsetOf
-numberOf-moved g p n =
-    let t = 2 ^ (g .thinning) in
-    let e : g .begin + (p + n) * t ≡ g .begin + p * t + n * t = omega arith in
-    rw (mod-add-mod (g .begin + p * t) circle (n * t % circle), add-mod-mod (g .begin + p * t) (n * t) circle)
-    (ap (λ (x : ℕ). x % circle) e)
-
 module _ (g : Range) where
   -- at the start all that are inside are left
   pub begin-standing : g .begin < 65536 → Standing g (insideCount g) (g .begin)
-  unfolding numberOf offsetOf
   begin-standing h =
       let e : insideCount g - insideCount g ≡ 0 = omega arith in
-      let z : g .begin + 0 * 2 ^ (g .thinning) ≡ g .begin = omega arith in
-      record { low = omega arith; number = rw (e, z) (sym (mod-eq-of-lt h)) }
+      record { low = omega arith; number = rw e (sym (numberOf-zero g h)) }
 
   pub here-start : (bytes : List ℕ) → numbersFrom g 0 (words16 bytes) ≡ here g bytes 0 (insideCount g)
   here-start bytes = let e : insideCount g - insideCount g ≡ 0 = omega arith in rw e

@@ -1,6 +1,6 @@
 -- The block of a good record is laid as the record asks, for each kind. Assumes nothing.
 use Prim.Native.Nat.{ℕ, _+_, _%_, _<_, _^_}
-use mathlib.Core.Path.{_≡_}
+use mathlib.Core.Path.{_≡_, refl}
 use mathlib.Core.Bool.{true}
 use mathlib.Core.List.{List}
 use native.Mathlib.Omega.{arith}
@@ -20,10 +20,10 @@ use Rattle.def_jobs.specs.Jobs.{Job, le16, le32, le64, low32, jobFields, jobWor
 use Rattle.def_jobs.specs.Jobs.{isBlockJob, askedAs, askedOf}
 use Rattle.def_jobs.specs.Layout.{bytesOf, wordsBytes, bytesAs, blockBytes}
 use Rattle.utils.proofs.BytesLaws.{Bytes}
-use Rattle.little_endian.proofs.LowLaws.{length-low32}
+use Rattle.little_endian.proofs.LowLaws.{length-low32, length-bytesOf}
 use Rattle.written.proofs.Lists.{under-drop}
 use Rattle.written.proofs.RecordsLaws.{Body}
-use Rattle.written.proofs.WordsLaws.{under-low16, under-low32, words32-bytes, length-four}
+use Rattle.written.proofs.WordsLaws.{under-low16, under-low32, words32-bytes}
 use Rattle.written.proofs.WordsLaws.{numbers-behind, words-even}
 use Rattle.written.proofs.BlockLaws.{Fits, Laid, rle-laid, times-laid, clock-laid, echoes-laid}
 
@@ -58,12 +58,12 @@ laid-as (AKind (Spans (Chunks a))) layout j g h =
     (rle-laid (jobFields j) (wordsBytes layout (jobWords j)) (job-fits j 2 g h) (words-even layout (jobWords j)) a)
 laid-as (AKind (Spans Times)) layout j g h =
     let u = under-low32 (drop 10 (j .body)) (under-drop 256 10 (j .body) h) in
-    let m : length (bytesOf four (jobTimes j)) % 4 ≡ 0 = omega (arith, length-four (jobTimes j)) in
+    let m : length (bytesOf four (jobTimes j)) % 4 ≡ 0 = omega (arith, length-bytesOf four 4 (λ x. refl) (jobTimes j)) in
     rw (words32-bytes (jobTimes j) u) at
     (times-laid (jobFields j) (bytesOf four (jobTimes j)) (job-fits j 4 g h) m)
 laid-as (AKind Clock) layout j g h = clock-laid (le64 (j .body) 0) (le64-lt (j .body) h 0)
 laid-as (AKind Echoes) layout j g h =
-    let l = length-four (low32 (j .body)) in
+    let l = length-bytesOf four 4 (λ x. refl) (low32 (j .body)) in
     let n = length-low32 (j .body) in
     let m : length (j .body) % 12 ≡ 0 = eqb-true _ _ g in
     let e : length (j .body) ≡ length (bytesOf four (low32 (j .body))) = omega arith in

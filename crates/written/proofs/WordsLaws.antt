@@ -1,7 +1,6 @@
 -- The words, times and entries of a record's body, written as bytes and read back. Assumes nothing.
 --     under-low16, under-low32                     a body's numbers, and their bounds
 --     words16-bytes, words32-behind, ..            their bytes read back, with more bytes behind them and without
---     length-two, length-four                      how many bytes they are
 --     block-words, numbers-behind, words-even      a block's words: the record's and zero words, which show nothing
 use Prim.Native.Nat.{ℕ, zero, suc, _+_, _*_, _%_, _<_}
 use mathlib.Core.Path.{_≡_, refl, ap, _∙_}
@@ -22,6 +21,7 @@ use Rattle.def_jobs.specs.declared.Layout.the-variants.{Plain, Careful}
 use Rattle.def_jobs.specs.Jobs.{pairLow, low16, low32}
 use Rattle.def_jobs.specs.Layout.{bytesOf, isOdd, lastWord, zerosBehind, wordsBytes}
 use Rattle.utils.proofs.BytesLaws.{Bytes, words16-two, words32-four}
+use Rattle.little_endian.proofs.LowLaws.{length-bytesOf}
 use Rattle.written.proofs.Lists.{Under}
 
 -- ---- a body's numbers
@@ -57,14 +57,6 @@ words32-behind (t ∷ ts) rest h =
 pub words32-bytes : (ts : List ℕ) → Under 4294967296 ts → words32 (bytesOf four ts) ≡ ts
 unfolding pairUp
 words32-bytes ts h = rw (append-nil (bytesOf four ts), append-nil ts) at (words32-behind ts [] h)
-
-pub length-two : (ws : List ℕ) → length (bytesOf two ws) ≡ 2 * length ws
-length-two [] = refl
-length-two (w ∷ ws) = let e = length-two ws in omega arith
-
-pub length-four : (ts : List ℕ) → length (bytesOf four ts) ≡ 4 * length ts
-length-four [] = refl
-length-four (t ∷ ts) = let e = length-four ts in omega arith
 
 -- ---- zero words behind
 
@@ -113,7 +105,7 @@ words-even layout ws =
     omega (
       arith,
       length-append (bytesOf two ws) (replicate (2 * zerosBehind layout ws) 0),
-      length-two ws,
+      length-bytesOf two 2 (λ x. refl) ws,
       length-replicate {A = ℕ} (2 * zerosBehind layout ws) 0,
       zeros-even layout ws,
     )

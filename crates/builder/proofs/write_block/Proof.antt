@@ -10,8 +10,8 @@ use Rattle.def_wire.specs.Block.{kindOf}
 use Rattle.def_jobs.specs.Jobs.{Job}
 use Rattle.jobs.specs.Places.{jobOf}
 use Rattle.jobs.proofs.KindLaws.{kind-is, kind-spans}
-use Rattle.block_size.proofs.JudgeLaws.{block-words, block-times, block-clock}
-use Rattle.builder.proofs.JobLaws.{fit, block-room, block-wrote}
+use Rattle.block_size.proofs.JudgeLaws.{fields-are, block-words, block-times, block-clock}
+use Rattle.builder.proofs.JobLaws.{block-room, block-wrote}
 use Rattle.builder.proofs.write_block.Statement.{statement}
 use Rattle.builder.proofs.write_block.Tie as tie
 
@@ -54,14 +54,16 @@ echoes t =
 write-words-requires : tie.Need-write-words-requires
 write-words-requires c κs =
     let t = c .before .before in
-    let p = start-spans (t .before .before) .pre in
-    (fit _ 2 (block-words _ _ (words t)) (p .0), block-room _ _ (words t) _ _ (p .1))
+    let s = start-spans (t .before .before) in
+    let j = job s in
+    (fields-are j 2 (sym (block-words j _ (words t)) ∙ s .pre .0), block-room _ _ (words t) _ _ (s .pre .1))
 
 write-times-requires : tie.Need-write-times-requires
 write-times-requires c κs =
     let t = c .before in
-    let p = start-spans (t .before .before) .pre in
-    (fit _ 4 (block-times _ (times t)) (p .0), block-room _ _ (times t) _ _ (p .1))
+    let s = start-spans (t .before .before) in
+    let j = job s in
+    (fields-are j 4 (sym (block-times j (times t)) ∙ s .pre .0), block-room _ _ (times t) _ _ (s .pre .1))
 
 write-clock-requires : tie.Need-write-clock-requires
 write-clock-requires c κs =

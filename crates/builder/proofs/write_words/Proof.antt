@@ -27,13 +27,14 @@ room f =
 swap16-requires : tie.Need-swap16-requires
 swap16-requires c κs =
     let f = c .before .before .before in
-    (f .before .before .before .before .before .before .pre .0 .whole, omega (arith, room f))
+    (f .before .before .before .before .before .before .pre .0 .ten, omega (arith, room f))
 
-zero-bytes-requires : tie.Need-zero-bytes-requires
-zero-bytes-requires c κs =
+zero-words-requires : tie.Need-zero-words-requires
+zero-words-requires c κs =
     let x = c .before .before .before in
     let v = x .swap16 .ensures in
-    omega (arith, v .past, same v, room (x .before .before .before .before))
+    let f = x .before .before .before .before in
+    (few (f .before .before .before), omega (arith, v .past, same v, room f))
 
 returns : tie.Need-returns
 returns c =
@@ -43,11 +44,11 @@ returns c =
     let z = f .before .before .before in
     let s = z .before .before .before in
     words-wrote (s .args .layout) (s .args .a) (s .args .body .now) (s .pre .0) _ (z .zeros-behind .ensures) _
-    (f .before .rle-type .ensures) (f .put-fields .ensures) (x .swap16 .ensures) (y .zero-bytes .ensures)
+    (f .before .rle-type .ensures) (f .put-fields .ensures) (x .swap16 .ensures) (y .zero-words .ensures)
 
 pub write-words-spec : {M : Type 1} → statement M
 write-words-spec =
     tie.close
-    (tie.spec (λ c κs. search needs) (λ c. omega (arith, few c)) (λ c κs. search needs) (λ c. search needs)
-    (λ c. omega (arith, few (c .before .before))) (λ c κs. search needs) swap16-requires zero-bytes-requires
-    (λ c. search needs) returns)
+    (tie.spec (λ c κs. search needs) (λ c κs. search needs) (λ c. search needs)
+    (λ c. omega (arith, few (c .before .before))) (λ c. omega (arith, few (c .before .before)))
+    (λ c κs. search needs) swap16-requires zero-words-requires (λ c. search needs) returns)
