@@ -99,7 +99,9 @@ module _ (j : Job) where
     length-body = omega (arith, eqb-true (length (j .body) % 12) 0 good)
 
     length-block : length block ≡ 4 + 12 * entries
-    length-block = omega (arith, length-bytesOf four 4 (λ x. refl) (low32 (j .body)), length-low32 (j .body), length-body)
+    length-block =
+        let l = length-bytesOf four 4 (λ x. refl) (low32 (j .body)) in
+        omega (arith, l, length-low32 (j .body), length-body)
 
     module _ (rest : List ℕ) (small : length (block ++ rest) ≤ maxBytes) where
       announced : blockLength (block ++ rest) ≡ 4 + 12 * entries

@@ -58,7 +58,8 @@ laid-as (AKind (Spans (Chunks a))) layout j g h =
     (rle-laid (jobFields j) (wordsBytes layout (jobWords j)) (job-fits j 2 g h) (words-even layout (jobWords j)) a)
 laid-as (AKind (Spans Times)) layout j g h =
     let u = under-low32 (drop 10 (j .body)) (under-drop 256 10 (j .body) h) in
-    let m : length (bytesOf four (jobTimes j)) % 4 ≡ 0 = omega (arith, length-bytesOf four 4 (λ x. refl) (jobTimes j)) in
+    let l = length-bytesOf four 4 (λ x. refl) (jobTimes j) in
+    let m : length (bytesOf four (jobTimes j)) % 4 ≡ 0 = omega (arith, l) in
     rw (words32-bytes (jobTimes j) u) at
     (times-laid (jobFields j) (bytesOf four (jobTimes j)) (job-fits j 4 g h) m)
 laid-as (AKind Clock) layout j g h = clock-laid (le64 (j .body) 0) (le64-lt (j .body) h 0)
