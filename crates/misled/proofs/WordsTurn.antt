@@ -7,12 +7,12 @@
 --     next-none      it goes on outside, has no one there, and is passed
 --     found          it has one
 --     over           the words of a stretch are passed at once
-use Prim.Native.Nat.{ℕ, zero, suc, _+_, _*_, _-_, _/_, _%_, _^_, _≤_, _<_}
+use Prim.Native.Nat.{ℕ, zero, suc, _+_, _*_, _-_, _/_, _%_, _≤_, _<_}
 use mathlib.Core.Path.{_≡_, refl, sym, ap, _∙_}
 use mathlib.Core.Logic.{_⊎_, inl, inr, ⊎-elim}
 use mathlib.Core.Bool.{false, cond}
 use mathlib.Core.List.{List, _∷_}
-use native.Mathlib.Nat.{add-zero, mod-add-mod, add-mul-mod-self-left, div-add-mod}
+use native.Mathlib.Nat.{add-zero, mod-add-mod}
 use native.Mathlib.Omega.{arith}
 use lib.ListN.{length, drop, length-drop, drop-of-length-le}
 use lib.Seq.{drop-cons}

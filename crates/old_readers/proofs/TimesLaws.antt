@@ -1,7 +1,7 @@
 -- What 15 comes to for a block of type 3: both readings list a first stretch of the same pairs, so they show the same
 -- where they list as many. Assumes nothing.
 --     times-mislead      the block misleads where `misledTimes` says so
-use Prim.Native.Nat.{ℕ, zero, suc, _+_, _/_, _%_, _≤_, min}
+use Prim.Native.Nat.{ℕ, zero, suc, _+_, _/_, _≤_, min}
 use mathlib.Core.Path.{_≡_, refl, sym, ap, ap₂, _∙_}
 use mathlib.Core.Bool.{true, not}
 use mathlib.Core.List.{List, [], _∷_, _++_}
