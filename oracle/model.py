@@ -8,6 +8,7 @@ the packet on standard input, as xrdump does. The model's author had read the Ru
     readings.py        the packet, the walk, a block's view, fields and time, in both readings
     lists.py           chunk words, the lists of both readings, the cursor
     jobs.py            job lists, the plain and the careful layout, refusal 15
+    marks.py           chunk words from heard marks
     dump.py            what xrdump prints
     model_selftest.py  the examples and the open points' facts
 """

@@ -61,3 +61,13 @@ def any_block(draw):
     if kind == 3:
         return 3, any_range(draw), [draw.getrandbits(32) for _ in range(draw.randrange(6))]
     return kind, any_range(draw), [any_word(draw) for _ in range(draw.randrange(6))]
+
+
+def any_marks(draw, most):
+    """At most so many marks: stretches of one value, or of marks at random."""
+    marks, size = b"", draw.randrange(most + 1)
+    while len(marks) < size:
+        length = draw.choice((1, 2, 14, 15, 16, 30, 16382, 16383, 16384, draw.randrange(1, 40)))
+        value = draw.randrange(3)
+        marks += bytes([value]) * length if value < 2 else bytes(draw.choices((0, 1), k=draw.randrange(1, 40)))
+    return marks[:size]

@@ -8,8 +8,9 @@ from dump import dump
 from jobs import job_list, layout, misled, records, write
 from lists import (covers, crate_count, crate_numbers, cursor, entries, first_failure, is_inside,
                    make_word, moved, numbers, offset_sequence, pairs, values, words)
-from model_cases import (CLOCK, any_block, any_range, any_word, both, careful, dlrr, h, header, plain,
-                         rle, times)
+from marks import misfit, words_from_marks
+from model_cases import (CLOCK, any_block, any_marks, any_range, any_word, both, careful, dlrr, h, header,
+                         plain, rle, times)
 from readings import CRATE, STANDARD, Range, fields, is_refused, time, view, whole
 
 FAILED = []
@@ -25,7 +26,7 @@ def expect(name, found, wanted):
 
 def run():
     for test in (examples, header_facts, block_facts, list_facts, cursor_facts, word_facts,
-                 job_facts, misled_facts, misled_rules, dump_facts):
+                 job_facts, misled_facts, misled_rules, mark_facts, mark_turns, dump_facts):
         test()
     print(f"{CHECKS[0]} checks, {len(FAILED)} failed")
     return 1 if FAILED else 0
@@ -292,6 +293,54 @@ def rule_misleads(block, behind):
                 return offset_sequence(q, start, r) is not None
         p, start = p + covers(word), moved(start, word, r)
     return False
+
+
+def mark_facts():
+    one, zero = b"\1", b"\0"
+    for marks, wanted in ((b"", []), (one, [49152]), (zero, [32768]), (zero * 3, [32768]),
+                          (one * 14, [65534]), (one * 15, [16399]), (one * 16, [16400]),
+                          (zero * 14, [32768]), (zero * 15, [15]), (zero * 16, [16]),
+                          (zero + one * 28, [49151, 65534]), (zero + one * 29, [49151, 16399]),
+                          (one * 15 + zero, [16399, 32768]), (one * 14 + zero + one, [65534, 49152]),
+                          (zero * 14 + one, [32769]), (zero * 15 + one, [15, 49152]),
+                          (one * 16383, [32767]), (one * 16384, [32767, 49152]),
+                          (one * 16397, [32767, 65534]), (one * 16398, [32767, 16399]),
+                          (zero * 16383, [16383]), (zero * 16384, [16383, 32768]),
+                          (zero * 65536, [16383] * 4 + [32768]), (one * 65536, [32767] * 4 + [0xf800]),
+                          ((one + zero) * 15, [0xd555, 0xaaaa])):
+        expect(f"words of {len(marks)} marks", words_from_marks(marks), wanted)
+        expect("words that fit their marks", misfit(marks, wanted), None)
+    expect("the most words", len(words_from_marks((one + zero) * 32768)), 4370)
+    expect("14", words_from_marks(one * 65537), ("refused", 14, 65537, 65536))
+    expect("14 before 17", words_from_marks(b"\2" * 65537, 0), ("refused", 14, 65537, 65536))
+    for bad in 2, 3, 48, 128, 255:
+        for p in 0, 1, 19:
+            marks = one * p + bytes([bad]) + one * (19 - p)
+            expect("17", words_from_marks(marks), ("refused", 17, p, 0))
+            expect("17, the first", words_from_marks(marks + b"\2"), ("refused", 17, p, 0))
+    expect("17 before 11", words_from_marks(one * 20 + b"\2", 0), ("refused", 17, 20, 0))
+    expect("11", words_from_marks(one * 16384, 1), ("refused", 11, 2, 1))
+    expect("11, no room", words_from_marks(zero, 0), ("refused", 11, 1, 0))
+    expect("no marks, no room", words_from_marks(b"", 0), [])
+    for words_, what in (([16399, 0], "nothing"), ([16384, 16399], "nothing"), ([65535] * 2, "more"),
+                         ([16398], "value"), ([15], "value"), ([16400], "behind")):
+        expect("words that do not fit", what in (misfit(one * 15, words_) or ""), True)
+
+
+def mark_turns():
+    """Words of marks in a loss block with begin b and end b + marks: both readings of the careful packet list exactly
+    the numbers b + p of the marks p that are 1, and it misleads nobody."""
+    draw = random.Random(4)
+    for marks in [b"", b"\1" * 65536, b"\0" * 65536, b"\0\1" * 32768, *(any_marks(draw, 60) for _ in range(400)),
+                  *(any_marks(draw, 40000) for _ in range(6))]:
+        own = words_from_marks(marks)
+        expect("words that fit their marks", misfit(marks, own), None)
+        for begin in 0, 65535, draw.randrange(65536):
+            block = rle(own, begin, (begin + len(marks)) % 65536)
+            heard = [(begin + p) % 65536 for p, mark in enumerate(marks) if mark]
+            expect("never 15", misled([header(), block]), [])
+            expect("plain, standard", numbers(plain(block), STANDARD, 0, 1), heard)
+            expect("careful, both readings", both(numbers, careful(block), 0, 1), (heard, heard))
 
 
 def dump_facts():

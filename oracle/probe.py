@@ -14,16 +14,18 @@ import tempfile
 from dump import dump, flattened
 from jobs import MOST_BYTES, write
 from lists import cursor, entries, make_word, numbers, pairs, words
+from marks import words_from_marks
 from readings import fields, is_refused, time, view, whole
 
 ROOT = os.path.dirname(os.path.dirname(os.path.abspath(__file__)))
 LENT = 16384        # the most room that a list is lent
 LONGEST = 300000    # the longest payload, in bytes
 
-DUMP, LIST, FIELDS, CURSOR, PLAIN, CAREFUL, WORD, PARSE, WORDS, VIEW, NUMBERS = 1, 2, 3, 4, 5, 6, 7, 8, 9, 11, 14
-NO_KIND = 10        # of the kinds that are none
+DUMP, LIST, FIELDS, CURSOR, PLAIN, CAREFUL, WORD, PARSE, WORDS, MARKS, VIEW = range(1, 12)
+NUMBERS = 14
+NO_KIND = 0         # of the kinds that are none
 FORMS = {DUMP: "<", LIST: "<BIBI", FIELDS: "<BIB", CURSOR: "<IBIIIII", PLAIN: "<I", CAREFUL: "<I", WORD: "<BII",
-         PARSE: "<B", WORDS: "<BIBI", VIEW: "<BI", NUMBERS: "<BIBI"}
+         PARSE: "<B", WORDS: "<BIBI", MARKS: "<I", VIEW: "<BI", NUMBERS: "<BIBI"}
 # For each kind with an asked type: the types that it serves. LIST takes no other; of the others a byte that
 # they do not serve is refused as 10 (FIELDS asks the time for 4).
 TYPES = {LIST: (1, 2, 3, 5), FIELDS: (1, 2, 3, 4), CURSOR: (1, 2), WORDS: (1, 2), NUMBERS: (1, 2)}
@@ -36,7 +38,7 @@ def asked(kind):
 
 
 def request(kind, *given, packet=b""):
-    """The kind's numbers, in order, and then the packet (for PLAIN and CAREFUL, the job list)."""
+    """The kind's numbers, in order, and then the packet (for PLAIN and CAREFUL the job list, for MARKS the marks)."""
     return kind, struct.pack(FORMS[kind], *given) + packet
 
 
@@ -144,6 +146,10 @@ def word_answer(given, behind):
     return told(make_word(kind, value, room), lambda found: f"word {found.hex()}")
 
 
+def marks_answer(given, marks):
+    return told(words_from_marks(marks, min(*given, LENT)), lambda found: listed("words", found))
+
+
 def parse_answer(given, packet):
     return told(whole(packet, *given), lambda found: "blocks {} ssrc {}".format(*found))
 
@@ -155,7 +161,7 @@ def view_answer(given, packet):
 
 ANSWERS = {DUMP: lambda _, packet: dump(packet), LIST: list_answer, FIELDS: fields_answer,
            CURSOR: cursor_answer, PLAIN: written_answer(False), CAREFUL: written_answer(True), WORD: word_answer,
-           PARSE: parse_answer, WORDS: words_answer, VIEW: view_answer, NUMBERS: numbers_answer}
+           PARSE: parse_answer, WORDS: words_answer, MARKS: marks_answer, VIEW: view_answer, NUMBERS: numbers_answer}
 
 
 def run_answer(data):

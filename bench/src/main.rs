@@ -5,8 +5,10 @@
 //     packets.rs   what is read                        agree.rs     the comparison
 //     timing.rs    turns and the table                 rows.rs      the rows and the growth
 //     writing.rs   what is written, as job lists and as builders
+//     marks.rs     marks, and their words by plain Rust
 
 mod agree;
+mod marks;
 mod ours;
 mod packets;
 mod rows;
@@ -17,10 +19,10 @@ mod writing;
 use timing::Table;
 
 const USAGE: &str = "bench/run [GROUP ..]: times the named groups of rows, or all of them
-groups: packet numbers others longest refusals growth writing careful
+groups: packet numbers others longest refusals growth writing careful marks
 exit status: 0 every row is at or below its bar; 1 a row is above it; 2 bad usage; 101 an answer differs from the Rust's";
 
-const GROUPS: [(&str, fn(&mut Table)); 8] = [
+const GROUPS: [(&str, fn(&mut Table)); 9] = [
     ("packet", rows::packet),
     ("numbers", rows::numbers),
     ("others", rows::others),
@@ -29,6 +31,7 @@ const GROUPS: [(&str, fn(&mut Table)); 8] = [
     ("growth", rows::growth),
     ("writing", rows::writing),
     ("careful", rows::careful_writing),
+    ("marks", rows::from_marks),
 ];
 
 fn main() {
@@ -60,7 +63,7 @@ fn main() {
     std::process::exit(1);
 }
 
-/// Random packets, every question about each.
+/// Random packets, every question about each; and random marks at rooms from none to enough.
 fn compare() {
     let mut seed = packets::Seed(0x0DDB1A5E5BAD5EED);
     let mut room = agree::Room::new(70_000);
@@ -70,4 +73,15 @@ fn compare() {
         agree::everything(&packets::random(&mut seed), &mut room);
     }
     println!("bench: {n} random packets, every question of every block: the crate reading answers what the Rust answers");
+    for i in 0..n {
+        let m = marks::any(&mut seed, if i % 100 == 0 { 66_000 } else { 200 });
+        let a = agree::from_marks(&m, m.len() / 15 + 2);
+        if a.code == 0 {
+            let need = a.first as usize;
+            for room in [0, need / 2, need.saturating_sub(1), need] {
+                agree::from_marks(&m, room);
+            }
+        }
+    }
+    println!("bench: {n} random lists of marks: the words that plain Rust makes");
 }

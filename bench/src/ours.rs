@@ -56,6 +56,7 @@ extern "C" {
         ssrcs: *mut u32, a: usize, lasts: *mut u32, b: usize, delays: *mut u32, c: usize,
     ) -> Flat;
     fn xr_chunk(kind: u8, value: u32, out: *mut u8, m: usize) -> Flat;
+    fn xr_words_from_marks(marks: *const u8, n: usize, out: *mut u16, m: usize) -> Flat;
     fn xr_write_plain(list: *const u8, n: usize, out: *mut u8, m: usize) -> Flat;
     fn xr_write_careful(list: *const u8, n: usize, out: *mut u8, m: usize) -> Flat;
     fn xr_cursor(
@@ -128,6 +129,11 @@ pub fn entries(
 #[inline]
 pub fn chunk(kind: u8, value: u32, out: &mut [u8]) -> Flat {
     unsafe { xr_chunk(kind, value, out.as_mut_ptr(), out.len()) }
+}
+
+#[inline]
+pub fn words_from_marks(marks: &[u8], out: &mut [u16]) -> Flat {
+    unsafe { xr_words_from_marks(marks.as_ptr(), marks.len(), out.as_mut_ptr(), out.len()) }
 }
 
 /// At most `budget` steps from (word, place, position).

@@ -2,6 +2,7 @@
 // since the Rust has no such reading: it is timed on blocks where both list the same.
 
 use crate::agree::{self, Room};
+use crate::marks;
 use crate::ours::{self, CRATE, STANDARD};
 use crate::packets::{self as make, careful, mixed, runs, some_runs, vectors};
 use crate::theirs;
@@ -384,4 +385,51 @@ fn refused_lists(t: &mut Table, many: &[Vec<u8>]) {
     let p = pair(|| go(ours::write_plain(bb(&l), bb(&mut out[..100]))), || go(jobs::written(bb(&ready), bb(&mut theirs[..100])).is_err()));
     t.note("11: the same, against a ready XrBuilder", p);
     assert!(out.iter().all(|&x| x == 0xee), "nothing was written by a refused call");
+}
+
+/// Chunk words from marks, against plain Rust (marks.rs), in just the room that they need; and, where so many marks can
+/// need more, in room for the most.
+pub fn from_marks(t: &mut Table) {
+    t.heading("words from 65,536 marks, against plain Rust");
+    let n = 65_536;
+    let most = (n + 14) / 15;
+    let random = marks::random(n);
+    for (name, m) in [
+        ("all ones", marks::stretches(n, n)),
+        ("alternating", marks::stretches(n, 1)),
+        ("random", random.clone()),
+        ("stretches of 40", marks::stretches(n, 40)),
+    ] {
+        let need = agree::from_marks(&m, most).first as usize;
+        t.row(&format!("{name}: {need} words"), made(&m, need), BAR);
+        if need < most {
+            t.row(&format!("{name}: {need} words, room for {most}"), made(&m, most), BAR);
+        }
+    }
+    let mut bad = random.clone();
+    bad[n - 1] = 2;
+    assert_eq!(agree::from_marks(&bad, most).code, 17);
+    t.row("17: the last mark is bad", made(&bad, most), BAR);
+    let need = agree::from_marks(&random, most).first as usize;
+    assert_eq!(agree::from_marks(&random, need - 1).code, 11);
+    t.row("11: random, one word too little room", made(&random, need - 1), BAR);
+    let more = vec![1; n + 1];
+    assert_eq!(agree::from_marks(&more, most).code, 14);
+    // one look at the length: what is timed is our call, and of plain Rust not even that
+    t.note("14: 65,537 marks", made(&more, most));
+}
+
+/// Both ways of plain Rust; the one that is harder to beat.
+fn made(m: &[u8], room: usize) -> Pair {
+    agree::from_marks(m, room);
+    let (mut out, mut theirs) = (vec![0; room], vec![0; room]);
+    let iterator = pair(
+        || go(ours::words_from_marks(bb(m), bb(&mut out))),
+        || go(marks::by_iterator(bb(m), bb(&mut theirs))),
+    );
+    let loops = pair(
+        || go(ours::words_from_marks(bb(m), bb(&mut out))),
+        || go(marks::by_loops(bb(m), bb(&mut theirs))),
+    );
+    harder(iterator, loops)
 }

@@ -38,7 +38,7 @@ not-bare j = asks-some (kindOf (j .kind)) j
 
 -- ---- the packet
 
-reads-back : {layout : Layout} {js : List Job} {s : List ℕ} → Shows layout js s → ReadBack js s
+pub reads-back : {layout : Layout} {js : List Job} {s : List ℕ} → Shows layout js s → ReadBack js s
 unfolding parsedOf
 reads-back {layout} {js} {s} h =
     record {

@@ -3,9 +3,11 @@
 --     Walk       the reader from `new` by `moved` comes to each block
 --     RoundTrip  the reading functions answer of a written packet what its records ask
 --     Careful    a carefully written packet misleads no reader that keeps the old reading
+--     Marks      words from heard marks cover them, and a report made of them reads back as the numbers heard
 -- and the crate of examples: the twelve examples and the worked facts of every clause of the definitions. proofs/
 -- proves each claim under its name in small letters.
 pub mod Cursor
 pub mod Walk
 pub mod RoundTrip
 pub mod Careful
+pub mod Marks

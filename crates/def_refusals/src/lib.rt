@@ -35,6 +35,8 @@ pub enum Refusal {
     TooMany(usize, usize),
     // 15: the block's index
     Misleads(usize),
+    // 17: the mark's index
+    BadMark(usize),
 }
 
 // RULES' number and two values.

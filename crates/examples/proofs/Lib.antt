@@ -16,3 +16,4 @@ pub mod JobsWriting
 pub mod JobsOrder
 pub mod JobsSize
 pub mod JobsLargest
+pub mod Marks

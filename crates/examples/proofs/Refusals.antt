@@ -24,6 +24,7 @@ numbers-hold =
       row-12 = refl;
       row-14 = refl;
       row-15 = refl;
+      row-17 = refl;
       in-a-row = refl;
     }
 

@@ -3,7 +3,7 @@
 -- Read in this order: Vectors (packets and job lists, a 32-bit word to a row), Examples (what is claimed of them),
 -- Rows (how the other files write bytes), then those of each definition crate: Refusals; Wire, WireWalk, WireBlock;
 -- Standard; Crate; Questions; Cursor, CursorCalls; Jobs, JobsLayout, JobsShown, JobsWriting, JobsOrder, JobsSize,
--- JobsLargest.
+-- JobsLargest; Marks.
 pub mod Vectors
 pub mod Examples
 pub mod Rows
@@ -23,3 +23,4 @@ pub mod JobsWriting
 pub mod JobsOrder
 pub mod JobsSize
 pub mod JobsLargest
+pub mod Marks

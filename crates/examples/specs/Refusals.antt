@@ -5,7 +5,7 @@ use mathlib.Core.List.{List, [], _∷_}
 use Rattle.def_refusals.specs.declared.Refusal.the-variants.{TooShort, WrongVersion, WrongPacketType, WrongLength}
 use Rattle.def_refusals.specs.declared.Refusal.the-variants.{BadPadding, BlockTooLong, NoBlock, OtherType}
 use Rattle.def_refusals.specs.declared.Refusal.the-variants.{BadBlockLength, NoFields, NoPlace, NoRoom, ValueTooLarge}
-use Rattle.def_refusals.specs.declared.Refusal.the-variants.{BadRecord, TooMany, Misleads}
+use Rattle.def_refusals.specs.declared.Refusal.the-variants.{BadRecord, TooMany, Misleads, BadMark}
 use Rattle.def_refusals.specs.declared.Answer.{Answer}
 use Rattle.def_refusals.specs.declared.Answer.the-variants.{Done, Refused}
 use Rattle.def_refusals.specs.declared.Checked.the-variants.{Fine, Unfit}
@@ -43,6 +43,7 @@ pub record Numbers : Type 0 where
   -- found, limit
   pub row-14 : numbered (TooMany 32 31) ≡ no 14 32 31
   pub row-15 : numbered (Misleads 7) ≡ no 15 7 0
+  pub row-17 : numbered (BadMark 9) ≡ no 17 9 0
   -- number, first value, second value
   pub in-a-row : row 1 2 3 ≡ no 1 2 3
 

@@ -2,6 +2,7 @@
 -- with any bytes behind it. Assumes nothing.
 --     chunksBlock        the block
 --     standard-first     the standard's list is a prefix of the crate's
+--     crate-shows        the crate takes the block
 --     chunks-mislead     what is shown differs exactly where `misledWords` says so
 use Prim.Native.Nat.{ℕ, zero, suc, _*_, _-_, _≤_, _<_}
 use mathlib.Core.Path.{_≡_, refl, ap, _∙_}
@@ -162,7 +163,7 @@ module _ (a : Rle) (j : Job) (good : hasFields j 2 ≡ true) (body : Body j) (re
       (misledWords (jobFields j) (jobWords j))
   standard-first = let h = job-fits j 2 good body in rw numbers-shown (standard-leads f (h .begin) (h .end) ws)
 
-  crate-shows : recordOf Crate view ≡ shown (reported a f (crateNumbers view))
+  pub crate-shows : recordOf Crate (chunksBlock a j ++ rest) ≡ shown (reported a f (crateNumbers view))
   unfolding recordOf fieldsOf numbersShown
   crate-shows =
       rw (kind-rle a, check-fine) (ap (λ (x : Fields). shown (reported a x (crateNumbers view))) fields-shown)

@@ -75,6 +75,13 @@ pub fn any(kind: u8, p: &[u8], buf: &mut [u8], at: usize, list: &mut [u16]) -> T
     lists::any(kind, p, buf, at, list)
 }
 
+// Kind 10: chunk words from marks.
+pub fn from_marks(p: &[u8], buf: &mut [u8], at: usize, list: &mut [u16]) -> Told
+    ensures { λ r. ⌜ r .at ≤ length (now (buf .entry)) ⌝ }
+{
+    lists::from_marks(p, buf, at, list)
+}
+
 // Kind 4: a stretch of the number cursor.
 pub fn stretch(p: &[u8], buf: &mut [u8], at: usize, list: &mut [u16]) -> Told
     ensures { λ r. ⌜ r .at ≤ length (now (buf .entry)) ⌝ }

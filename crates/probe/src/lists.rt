@@ -31,7 +31,14 @@ fn words(s: &[u8], q: Asking, buf: &mut [u8], at: usize, list: &mut [u16]) -> us
     ensures { λ r. ⌜ r ≤ length (now (buf .entry)) ⌝ }
 {
     lent::fill16(list);
-    match by_number::words(crate::reading(q.r), s, q.k, q.t, list) {
+    let a = by_number::words(crate::reading(q.r), s, q.k, q.t, list);
+    tell_words(buf, at, list, a)
+}
+
+fn tell_words(buf: &mut [u8], at: usize, list: &[u16], a: Answer) -> usize
+    ensures { λ r. ⌜ r ≤ length (now (buf .entry)) ⌝ }
+{
+    match a {
         Answer::Done(n) => {
             let m = lines::words_line(buf, at, list, n);
             crate::said_whole(buf, m, lent::stands16(list, n))
@@ -187,6 +194,26 @@ pub(crate) fn any(kind: u8, p: &[u8], buf: &mut [u8], at: usize, list: &mut [u16
         14 => crate::served(numbers(s, q, buf, at, &mut list[0..room])),
         _ => crate::unserved(utils::lesser(at, buf.len())),
     }
+}
+
+fn words_made(s: &[u8], buf: &mut [u8], at: usize, list: &mut [u16]) -> usize
+    ensures { λ r. ⌜ r ≤ length (now (buf .entry)) ⌝ }
+{
+    lent::fill16(list);
+    let a = marks::words(s, list);
+    tell_words(buf, at, list, a)
+}
+
+// Kind 10: room, marks.
+pub(crate) fn from_marks(p: &[u8], buf: &mut [u8], at: usize, list: &mut [u16]) -> Told
+    ensures { λ r. ⌜ r .at ≤ length (now (buf .entry)) ⌝ }
+{
+    if p.len() < 4 {
+        return crate::unserved(utils::lesser(at, buf.len()));
+    }
+    let room = utils::lesser(crate::number(p, 0), list.len());
+    let s = utils::part(p, 4, p.len());
+    crate::served(words_made(s, buf, at, &mut list[0..room]))
 }
 
 fn tell_advance(buf: &mut [u8], at: usize, list: &[u16], a: Advanced) -> usize

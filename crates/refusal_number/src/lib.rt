@@ -36,5 +36,6 @@ pub fn number(x: Refusal) -> Numbered
         Refusal::BadRecord(index) => row(12, index, 0),
         Refusal::TooMany(found, limit) => row(14, found, limit),
         Refusal::Misleads(index) => row(15, index, 0),
+        Refusal::BadMark(index) => row(17, index, 0),
     }
 }

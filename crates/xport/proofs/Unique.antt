@@ -13,6 +13,7 @@ use Rattle.xport.proofs.xr_words.Reads as xr-words
 use Rattle.xport.proofs.xr_pairs.Reads as xr-pairs
 use Rattle.xport.proofs.xr_entries.Reads as xr-entries
 use Rattle.xport.proofs.xr_chunk.Reads as xr-chunk
+use Rattle.xport.proofs.xr_words_from_marks.Reads as xr-words-from-marks
 use Rattle.xport.proofs.xr_write_plain.Reads as xr-write-plain
 use Rattle.xport.proofs.xr_write_careful.Reads as xr-write-careful
 use Rattle.xport.proofs.xr_cursor.Reads as xr-cursor
@@ -73,6 +74,12 @@ xr-chunk-unique κs a r₁ r₂ s₁ s₂ p q = p .answer ∙ sym (q .answer)
 
 pub xr-chunk-unique-out : (κs : Lfts 1) → Fixes (xr-chunk.Post κs) (λ r s. s .1 .1 .0 .now)
 xr-chunk-unique-out κs a r₁ r₂ s₁ s₂ p q = p .filled ∙ sym (q .filled)
+
+pub xr-words-from-marks-unique : (κs : Lfts 2) → Fixes (xr-words-from-marks.Post κs) (λ r s. r)
+xr-words-from-marks-unique κs a r₁ r₂ s₁ s₂ p q = p .answer ∙ sym (q .answer)
+
+pub xr-words-from-marks-unique-out : (κs : Lfts 2) → Fixes (xr-words-from-marks.Post κs) (λ r s. s .1 .0 .now)
+xr-words-from-marks-unique-out κs a r₁ r₂ s₁ s₂ p q = p .filled ∙ sym (q .filled)
 
 pub xr-write-plain-unique : (κs : Lfts 2) → Fixes (xr-write-plain.Post κs) (λ r s. r)
 xr-write-plain-unique κs a r₁ r₂ s₁ s₂ p q = p .answer ∙ sym (q .answer)

@@ -1,6 +1,6 @@
-// The reading questions, and writing in both layouts, for Rust and C: each takes numbers and slices and answers
-// numbers. A slice is a pointer and a length. A reading is a number: 0 the standard, anything else the crate's. A
-// packet's blocks are counted from 0.
+// The reading questions, chunk words from marks, and writing in both layouts, for Rust and C: each takes numbers and
+// slices and answers numbers. A slice is a pointer and a length. A reading is a number: 0 the standard, anything else
+// the crate's. A packet's blocks are counted from 0.
 ghost use mathlib.Core.Path.{_≡_};
 ghost use Rattle.def_wire.specs.Packet.{countOf, locate};
 ghost use Rattle.def_standard.specs.Chunks.{wordBytes};
@@ -8,6 +8,7 @@ ghost use Rattle.def_cursor.specs.Cursor.{cursor as here};
 ghost use Rattle.def_questions.specs.Packets.{timeAsked, pairsAsked, entriesAsked};
 ghost use Rattle.def_questions.specs.ByNumber.{fieldsBy, numbersBy, numbersViewBy, wordsBy};
 ghost use Rattle.def_jobs.specs.Writing.{packetOf};
+ghost use Rattle.def_marks.specs.Marks.{marksAsked};
 ghost use Rattle.flat.specs.Flat.{readingOf, flatOf, flatLocated, flatFields, flatTime, chunkAsked};
 ghost use Rattle.flat.specs.Lists.{FlatListed, FlatPairs, FlatEntries, FlatStretched};
 use def_cursor::Cursor;
@@ -127,6 +128,15 @@ pub extern "C" fn xr_chunk(k: u8, value: u32, out: &mut [u8]) -> Flat
     ensures { λ a. ⌜ FlatListed (wordBytes (chunkAsked k value)) (now (out .entry)) a (now (out .exit)) ⌝ }
 {
     flat::answer(chunk::write_chunk(flat::kind(k, value), out))
+}
+
+// Makes the chunk words of marks, one byte for each position, 1 heard and 0 not; what was found is the words' number:
+// 14, 17, 11.
+#[no_mangle]
+pub extern "C" fn xr_words_from_marks(marks: &[u8], out: &mut [u16]) -> Flat
+    ensures { λ a. ⌜ FlatListed (marksAsked (now (marks .entry))) (now (out .entry)) a (now (out .exit)) ⌝ }
+{
+    flat::answer(marks::words(marks, out))
 }
 
 // Writes the packet of a job list in the plain layout; what was found is its length: 12, 14, 11.

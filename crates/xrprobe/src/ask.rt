@@ -185,6 +185,7 @@ pub fn answer(kind: u8, p: &[u8], buf: &mut [u8], at: usize, list: &mut [u16]) -
         6 => writing(true, p, buf, at),
         7 => make(p, buf, at),
         8 => parse(p, buf, at),
+        10 => probe::from_marks(p, buf, at, list),
         11 => view(p, buf, at),
         _ => probe::any(kind, p, buf, at, list),
     }

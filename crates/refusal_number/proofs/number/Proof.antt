@@ -70,6 +70,10 @@ returns-16 : tie.Need-returns-16
 unfolding numbered
 returns-16 c = c .row16 .ensures ∙ sym (ap numbered (c .before .before .x13 .given .1))
 
+returns-17 : tie.Need-returns-17
+unfolding numbered
+returns-17 c = c .row17 .ensures ∙ sym (ap numbered (c .before .before .x14 .given .1))
+
 pub number-spec : {M : Type 1} → statement M
 number-spec =
     tie.close
@@ -79,5 +83,6 @@ number-spec =
     (λ c κs. search needs) (λ c. search needs) (λ c κs. search needs) (λ c. search needs) (λ c κs. search needs)
     (λ c. search needs) (λ c κs. search needs) (λ c. search needs) (λ c κs. search needs) (λ c. search needs)
     (λ c κs. search needs) (λ c. search needs) (λ c κs. search needs) (λ c. search needs) (λ c κs. search needs)
-    (λ c. search needs) (λ c κs. search needs) returns returns-2 returns-3 returns-4 returns-5 returns-6 returns-7
-    returns-8 returns-9 returns-10 returns-11 returns-12 returns-13 returns-14 returns-15 returns-16)
+    (λ c. search needs) (λ c κs. search needs) (λ c. search needs) (λ c κs. search needs) returns returns-2 returns-3
+    returns-4 returns-5 returns-6 returns-7 returns-8 returns-9 returns-10 returns-11 returns-12 returns-13 returns-14
+    returns-15 returns-16 returns-17)

@@ -1,0 +1,2 @@
+-- Marked: bytes that are marks.
+pub mod Marked
