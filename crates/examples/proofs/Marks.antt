@@ -1,9 +1,23 @@
 -- Marks, by computation.
 use mathlib.Core.Path.{refl}
 use Rattle.def_refusals.specs.Answers.{answerOf, filledOf}
+use Rattle.def_wire.specs.Bytes.{pairUp}
+use Rattle.def_wire.specs.Packet.{headerOf, placeOf, walkFrom, countOf, locate}
+use Rattle.def_wire.specs.Block.{rleOf, rangedOf, kindOf, standardRule, crateRule, fitness, checkOf, fieldsOf}
+use Rattle.def_standard.specs.Chunks.{valuesIn}
+use Rattle.def_standard.specs.Range.{rangeOf, offsetOf, inside, numberOf}
+use Rattle.def_standard.specs.Standard.{valuesOf, numbersFrom}
+use Rattle.def_crate.specs.Sequence.{passes, offsetSequence}
+use Rattle.def_crate.specs.Crate.{onesIn, triesFrom, crateNumbersFrom}
+use Rattle.def_questions.specs.Questions.{numbersShown}
+use Rattle.def_questions.specs.Packets.{numbersAsked}
+use Rattle.def_jobs.specs.Shown.{recordOf, numbersRow}
+use Rattle.def_jobs.specs.Jobs.{pairLow, jobsFrom, isHeaderJob, isBlockJob, jobsFault}
+use Rattle.def_jobs.specs.Layout.{zerosBehind, blockBytes, blocksBytes, layoutOf}
+use Rattle.def_jobs.specs.Writing.{misleadingFrom, writeFault, packetOf}
 use Rattle.def_marks.specs.Marks.{runOf, bitsOf, wordFor, takenBy, wordsFrom, badFrom, marksFault, marksAsked}
 use Rattle.def_marks.specs.Report.{lossList, heardOf}
-use Rattle.examples.specs.Marks.{NextWord, Words, MarksRefused, Reports}
+use Rattle.examples.specs.Marks.{NextWord, Words, MarksRefused, Reports, ReportReadBack}
 
 pub next-word-hold : NextWord
 unfolding runOf bitsOf wordFor takenBy
@@ -66,4 +80,20 @@ reports-hold =
       whole-circle = refl;
       report = refl;
       numbers = (refl, refl, refl, refl);
+    }
+
+pub report-read-back-hold : ReportReadBack
+unfolding runOf bitsOf wordFor takenBy wordsFrom lossList heardOf pairUp headerOf placeOf walkFrom countOf locate rleOf
+    rangedOf kindOf standardRule crateRule fitness checkOf fieldsOf valuesIn rangeOf offsetOf inside numberOf valuesOf
+    numbersFrom passes offsetSequence onesIn triesFrom crateNumbersFrom numbersShown numbersAsked recordOf numbersRow
+    pairLow jobsFrom isHeaderJob isBlockJob jobsFault zerosBehind blockBytes blocksBytes layoutOf misleadingFrom
+    writeFault packetOf
+report-read-back-hold =
+    record {
+      word = refl;
+      plain = refl;
+      careful = refl;
+      standard = refl;
+      crate = refl;
+      heard = refl;
     }

@@ -9,9 +9,15 @@ use Rattle.def_refusals.specs.declared.Refusal.the-variants.{TooMany, BadMark, 
 use Rattle.def_refusals.specs.declared.Answer.the-variants.{Done, Refused}
 use Rattle.def_refusals.specs.declared.Checked.the-variants.{Fine, Unfit}
 use Rattle.def_refusals.specs.Answers.{shown, refused, Listed}
+use Rattle.def_wire.specs.declared.Reading.the-variants.{Standard, Crate}
+use Rattle.def_wire.specs.declared.Rle.the-variants.{Loss}
+use Rattle.def_questions.specs.Packets.{numbersAsked}
+use Rattle.def_jobs.specs.declared.Layout.the-variants.{Plain, Careful}
+use Rattle.def_jobs.specs.Writing.{packetOf}
 use Rattle.def_marks.specs.Marks.{shortestRun, longestRun, maxMarks, runOf, bitsOf, firstMark, ahead, isRun, runLength}
 use Rattle.def_marks.specs.Marks.{wordFor, takenBy, wordsFrom, wordsOf, countFault, badFrom, marksFault, marksAsked}
 use Rattle.def_marks.specs.Report.{low2, low4, recordBytes, headerBytes, lossBytes, lossList, endOf, reportOf, heardOf}
+use Rattle.examples.specs.Rows.{rows}
 
 -- n marks that are heard, and n that are not
 abbrev pub heard : ℕ → List ℕ
@@ -120,3 +126,19 @@ pub record Reports : Type 0 where
   pub numbers :
       (heardOf 10 (1 ∷ 0 ∷ 1 ∷ 1 ∷ []) ≡ 10 ∷ 12 ∷ 13 ∷ []) × (heardOf 65535 (heard 3) ≡ 65535 ∷ 0 ∷ 1 ∷ [])
       × (heardOf 7 (missed 3) ≡ []) × (heardOf 7 [] ≡ [])
+
+-- four marks from 65534 on, the third not heard: their packet, a 32-bit word to a row
+abbrev pub sample : List ℕ
+sample = 1 ∷ 1 ∷ 0 ∷ 1 ∷ []
+
+abbrev pub sample-packet : List ℕ
+sample-packet = rows (0x80cf0005 ∷ 1 ∷ 0x01000003 ∷ 7 ∷ 0xfffe0002 ∷ 0xe8000000 ∷ [])
+
+-- from marks to a packet and back: in both layouts, by both readings
+pub record ReportReadBack : Type 0 where
+  pub word : wordsOf sample ≡ 0xe800 ∷ []
+  pub plain : packetOf Plain (reportOf 1 7 65534 sample) ≡ shown sample-packet
+  pub careful : packetOf Careful (reportOf 1 7 65534 sample) ≡ shown sample-packet
+  pub standard : numbersAsked Standard sample-packet 0 Loss ≡ shown (heardOf 65534 sample)
+  pub crate : numbersAsked Crate sample-packet 0 Loss ≡ shown (heardOf 65534 sample)
+  pub heard : heardOf 65534 sample ≡ 65534 ∷ 65535 ∷ 1 ∷ []

@@ -46,7 +46,8 @@ gathered-is a b c d ha hb hc hd =
 
 module _ (ms : List ℕ) (at : ℕ) where
   -- its bytes one by one
-  flat : be32 ms at ≡ (byteAt ms at * 256 + byteAt ms (at + 1)) * 65536 + (byteAt ms (at + 2) * 256 + byteAt ms (at + 3))
+  flat : be32 ms at
+      ≡ (byteAt ms at * 256 + byteAt ms (at + 1)) * 65536 + (byteAt ms (at + 2) * 256 + byteAt ms (at + 3))
   flat = let e : at + 2 + 1 ≡ at + 3 = omega arith in rw e
 
   -- a mark, and the bits behind it
