@@ -17,3 +17,5 @@ pub mod JobsOrder
 pub mod JobsSize
 pub mod JobsLargest
 pub mod Marks
+pub mod Text
+pub mod Dump

@@ -1,0 +1,1 @@
+// What the programs print: the lines, and the dump of a packet. Definitions only: see specs/.
