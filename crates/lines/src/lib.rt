@@ -1,15 +1,19 @@
 // The lines that the dump and xrprobe print (RULES, "Views, cursors and the dump"; README, "xrprobe"). The text goes
-// through a lent buffer to standard output, as print's functions do. These functions promise only that their answer
-// is within the buffer (docs/PROMISES.md, "Exceptions").
-ghost use Prim.Native.Nat.{_≤_};
-ghost use lib.ListN.{length};
+// through a lent buffer, as print's functions do, and each function promises that it has added exactly its line
+// (def_dump/specs/Lines.antt).
+ghost use mathlib.Core.Path.{_≡_};
+ghost use lib.ListN.{take};
+ghost use Rattle.def_text.specs.Buffer.{Added};
+ghost use Rattle.def_text.specs.Numerals.{ascii, twoInTurn, threeInTurn};
+ghost use Rattle.def_dump.specs.Lines.{refusedLine, refusalLine, blockLine, fieldsLine, timeLine, listLine, numbersLine};
+ghost use Rattle.def_dump.specs.Lines.{wordsLine, takenLine, wordLine, blocksLine, viewLine, packetLine};
 use def_cursor::Cursor;
 use def_refusals::Refusal;
 use def_wire::Fields;
 
 // `refused N`: the refusal's number alone.
 pub fn refused_line(buf: &mut [u8], at: usize, x: Refusal) -> usize
-    ensures { λ r. ⌜ r ≤ length (now (buf .entry)) ⌝ }
+    ensures { λ r. ⌜ Added (now (buf .entry)) at (refusedLine x) (now (buf .exit)) r ⌝ }
 {
     let row = refusal_number::number(x);
     let n = print::labelled(buf, at, b"refused", row.number as u64);
@@ -18,7 +22,7 @@ pub fn refused_line(buf: &mut [u8], at: usize, x: Refusal) -> usize
 
 // `ssrc S begin B end E thinning T`.
 pub fn fields_line(buf: &mut [u8], at: usize, f: Fields) -> usize
-    ensures { λ r. ⌜ r ≤ length (now (buf .entry)) ⌝ }
+    ensures { λ r. ⌜ Added (now (buf .entry)) at (fieldsLine f) (now (buf .exit)) r ⌝ }
 {
     let n = print::labelled(buf, at, b"ssrc", f.ssrc as u64);
     let m = print::labelled(buf, n, b" begin", f.begin as u64);
@@ -29,7 +33,7 @@ pub fn fields_line(buf: &mut [u8], at: usize, f: Fields) -> usize
 
 // `time N`.
 pub fn time_line(buf: &mut [u8], at: usize, time: u64) -> usize
-    ensures { λ r. ⌜ r ≤ length (now (buf .entry)) ⌝ }
+    ensures { λ r. ⌜ Added (now (buf .entry)) at (timeLine time) (now (buf .exit)) r ⌝ }
 {
     let n = print::labelled(buf, at, b"time", time);
     print::line_end(buf, n)
@@ -37,7 +41,9 @@ pub fn time_line(buf: &mut [u8], at: usize, time: u64) -> usize
 
 // `numbers ..`.
 pub fn numbers_line(buf: &mut [u8], at: usize, list: &[u16], count: usize) -> usize
-    ensures { λ r. ⌜ r ≤ length (now (buf .entry)) ⌝ }
+    ensures { λ r. ⌜ Added (now (buf .entry)) at
+        (numbersLine (take count (now (list .entry))))
+        (now (buf .exit)) r ⌝ }
 {
     let n = print::text(buf, at, b"numbers");
     let m = print::list16(buf, n, list, count);
@@ -46,7 +52,9 @@ pub fn numbers_line(buf: &mut [u8], at: usize, list: &[u16], count: usize) -> us
 
 // `pairs n t n t ..`.
 pub fn pairs_line(buf: &mut [u8], at: usize, numbers: &[u16], times: &[u32], count: usize) -> usize
-    ensures { λ r. ⌜ r ≤ length (now (buf .entry)) ⌝ }
+    ensures { λ r. ⌜ Added (now (buf .entry)) at
+        (listLine (ascii "pairs") (twoInTurn (take count (now (numbers .entry))) (take count (now (times .entry)))))
+        (now (buf .exit)) r ⌝ }
 {
     let n = print::text(buf, at, b"pairs");
     let m = print::list_pairs(buf, n, numbers, times, count);
@@ -62,7 +70,10 @@ pub fn entries_line(
     c: &[u32],
     count: usize,
 ) -> usize
-    ensures { λ r. ⌜ r ≤ length (now (buf .entry)) ⌝ }
+    ensures { λ r. ⌜ Added (now (buf .entry)) at
+        (listLine (ascii "entries")
+        (threeInTurn (take count (now (a .entry))) (take count (now (b .entry))) (take count (now (c .entry)))))
+        (now (buf .exit)) r ⌝ }
 {
     let n = print::text(buf, at, b"entries");
     let m = print::list_entries(buf, n, a, b, c, count);
@@ -70,18 +81,18 @@ pub fn entries_line(
 }
 
 // `block K type T length L`.
-pub fn block_line(buf: &mut [u8], at: usize, k: usize, h: [u8; 4]) -> usize
-    ensures { λ r. ⌜ r ≤ length (now (buf .entry)) ⌝ }
+pub fn block_line(buf: &mut [u8], at: usize, k: usize, kind: u8, length: usize) -> usize
+    ensures { λ r. ⌜ Added (now (buf .entry)) at (blockLine k kind length) (now (buf .exit)) r ⌝ }
 {
     let n = print::labelled(buf, at, b"block", k as u64);
-    let m = print::labelled(buf, n, b" type", xr::block_type(h) as u64);
-    let o = print::labelled(buf, m, b" length", xr::block_length(h) as u64);
+    let m = print::labelled(buf, n, b" type", kind as u64);
+    let o = print::labelled(buf, m, b" length", length as u64);
     print::line_end(buf, o)
 }
 
 // `refused N A B`.
 pub fn refusal_line(buf: &mut [u8], at: usize, x: Refusal) -> usize
-    ensures { λ r. ⌜ r ≤ length (now (buf .entry)) ⌝ }
+    ensures { λ r. ⌜ Added (now (buf .entry)) at (refusalLine x) (now (buf .exit)) r ⌝ }
 {
     let row = refusal_number::number(x);
     let n = print::labelled(buf, at, b"refused", row.number as u64);
@@ -92,7 +103,9 @@ pub fn refusal_line(buf: &mut [u8], at: usize, x: Refusal) -> usize
 
 // `words ..`.
 pub fn words_line(buf: &mut [u8], at: usize, list: &[u16], count: usize) -> usize
-    ensures { λ r. ⌜ r ≤ length (now (buf .entry)) ⌝ }
+    ensures { λ r. ⌜ Added (now (buf .entry)) at
+        (wordsLine (take count (now (list .entry))))
+        (now (buf .exit)) r ⌝ }
 {
     let n = print::text(buf, at, b"words");
     let m = print::list16(buf, n, list, count);
@@ -101,7 +114,7 @@ pub fn words_line(buf: &mut [u8], at: usize, list: &[u16], count: usize) -> usiz
 
 // `taken K word W place P position Q`.
 pub fn taken_line(buf: &mut [u8], at: usize, taken: usize, next: Cursor) -> usize
-    ensures { λ r. ⌜ r ≤ length (now (buf .entry)) ⌝ }
+    ensures { λ r. ⌜ Added (now (buf .entry)) at (takenLine taken next) (now (buf .exit)) r ⌝ }
 {
     let n = print::labelled(buf, at, b"taken", taken as u64);
     let m = print::labelled(buf, n, b" word", next.word as u64);
@@ -112,7 +125,7 @@ pub fn taken_line(buf: &mut [u8], at: usize, taken: usize, next: Cursor) -> usiz
 
 // `word hhhh`.
 pub fn word_line(buf: &mut [u8], at: usize, hi: u8, lo: u8) -> usize
-    ensures { λ r. ⌜ r ≤ length (now (buf .entry)) ⌝ }
+    ensures { λ r. ⌜ Added (now (buf .entry)) at (wordLine hi lo) (now (buf .exit)) r ⌝ }
 {
     let n = print::text(buf, at, b"word ");
     let m = print::hex(buf, n, hi);
@@ -122,37 +135,29 @@ pub fn word_line(buf: &mut [u8], at: usize, hi: u8, lo: u8) -> usize
 
 // `blocks N ssrc S`.
 pub fn blocks_line(buf: &mut [u8], at: usize, blocks: usize, ssrc: u32) -> usize
-    ensures { λ r. ⌜ r ≤ length (now (buf .entry)) ⌝ }
+    ensures { λ r. ⌜ Added (now (buf .entry)) at (blocksLine blocks ssrc) (now (buf .exit)) r ⌝ }
 {
     let n = print::labelled(buf, at, b"blocks", blocks as u64);
     let m = print::labelled(buf, n, b" ssrc", ssrc as u64);
     print::line_end(buf, m)
 }
 
-// Four bytes as eight hexadecimal digits.
-fn four_hex(buf: &mut [u8], at: usize, h: [u8; 4]) -> usize
-    ensures { λ r. ⌜ r ≤ length (now (buf .entry)) ⌝ }
-{
-    let n = print::hex(buf, at, h[0]);
-    let m = print::hex(buf, n, h[1]);
-    let o = print::hex(buf, m, h[2]);
-    print::hex(buf, o, h[3])
-}
-
 // `view OFFSET LENGTH header hhhhhhhh`.
-pub fn view_line(buf: &mut [u8], at: usize, offset: usize, size: usize, h: [u8; 4]) -> usize
-    ensures { λ r. ⌜ r ≤ length (now (buf .entry)) ⌝ }
+pub fn view_line(buf: &mut [u8], at: usize, offset: usize, size: usize, header: &[u8]) -> usize
+    ensures { λ r. ⌜ Added (now (buf .entry)) at (viewLine offset size (now (header .entry))) (now (buf .exit)) r ⌝ }
 {
     let n = print::labelled(buf, at, b"view", offset as u64);
     let m = print::number(buf, n, size as u64);
     let o = print::text(buf, m, b" header ");
-    let p = four_hex(buf, o, h);
+    let p = print::hex_list(buf, o, header, header.len());
     print::line_end(buf, p)
 }
 
 // `packet HEX`: the first so many bytes of a list.
 pub fn packet_line(buf: &mut [u8], at: usize, bytes: &[u8], count: usize) -> usize
-    ensures { λ r. ⌜ r ≤ length (now (buf .entry)) ⌝ }
+    ensures { λ r. ⌜ Added (now (buf .entry)) at
+        (packetLine (take count (now (bytes .entry))))
+        (now (buf .exit)) r ⌝ }
 {
     let n = print::text(buf, at, b"packet ");
     let m = print::hex_list(buf, n, bytes, count);

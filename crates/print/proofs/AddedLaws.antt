@@ -130,10 +130,10 @@ module _ {l₀ : List ℕ} {at₀ : ℕ} {whole : List ℕ} where
   next {l} {l′} {xs} {rest} {rest′} {at} {at′} e p f =
       record {
         place =
-          rw (same p, p .place) (sym (waits-append xs rest′ (length l) at)
-          ∙ ap (waitsAfter (length l) at) (sym e) ∙ f .place);
+            rw (same p, p .place) (sym (waits-append xs rest′ (length l) at)
+            ∙ ap (waitsAfter (length l) at) (sym e) ∙ f .place);
         held =
-          rw (p .held, p .place) (sym (held-append xs rest′ l at) ∙ ap (heldAfter l at) (sym e) ∙ f .held);
+            rw (p .held, p .place) (sym (held-append xs rest′ l at) ∙ ap (heldAfter l at) (sym e) ∙ f .held);
         same = same p ∙ f .same;
       }
 

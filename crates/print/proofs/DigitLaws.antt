@@ -113,9 +113,9 @@ module _ {l₀ : List ℕ} {at k n : ℕ} {l : List ℕ} {i rest : ℕ} (s : Spe
       let m : length (digits 10 (i - 1) (rest / 10)) ≡ i - 1 = length-digits (i - 1) (rest / 10) in
       record {
         stored =
-          set-last (digits 10 (i - 1) (rest / 10)) l at (at + (i - 1)) g (omega arith)
-          ∙ ap (λ (x : ℕ). sets l at (digits 10 (i - 1) (rest / 10) ++ (x ∷ []))) e
-          ∙ ap (λ (x : ℕ). sets l at (digits 10 x rest)) j ∙ s .stored;
+            set-last (digits 10 (i - 1) (rest / 10)) l at (at + (i - 1)) g (omega arith)
+            ∙ ap (λ (x : ℕ). sets l at (digits 10 (i - 1) (rest / 10) ++ (x ∷ []))) e
+            ∙ ap (λ (x : ℕ). sets l at (digits 10 x rest)) j ∙ s .stored;
         same = length-set l (at + (i - 1)) g ∙ s .same;
       }
 
