@@ -1,10 +1,15 @@
-// Both readings of a packet as text (RULES, "Views, cursors and the dump").
-// The text goes through a lent buffer to standard output, as print's functions do. These functions promise only that
-// their answer is within the buffer (docs/PROMISES.md, "Exceptions"). A list is filled where it is shown: into few
-// items, and where these are too few, into as many as are shown of one list at most, so that a short list does not
-// cost what a long one does.
-ghost use Prim.Native.Nat.{_≤_};
-ghost use lib.ListN.{length};
+// Both readings of a packet as text (RULES, "Views, cursors and the dump"). The text goes through a lent buffer, as
+// print's functions do, and each function promises that it has added exactly its part of `dumpText`
+// (def_dump/specs/Dump.antt). A list is filled where it is shown: into few items, and where these are too few, into as
+// many as are shown of one list at most, so that a short list does not cost what a long one does.
+ghost use mathlib.Core.Path.{_≡_};
+ghost use Rattle.def_wire.specs.Packet.{countOf};
+ghost use Rattle.def_wire.specs.Block.{checkOf, fieldsOf, timeOf};
+ghost use Rattle.def_questions.specs.Questions.{numbersShown, pairsShown, entriesShown};
+ghost use Rattle.def_text.specs.Buffer.{Added};
+ghost use Rattle.def_dump.specs.Lines.{numbersLine, pairsLine, entriesLine};
+ghost use Rattle.def_dump.specs.Dump.{listOr, fieldsOr, timeOr, contentsOf, unlessUnfit, blockText, blocksText};
+ghost use Rattle.def_dump.specs.Dump.{readingText, dumpText};
 use def_refusals::Answer;
 use def_refusals::Checked;
 use def_wire::FieldsOr;
@@ -26,7 +31,7 @@ const FEW: usize = 64;
 
 // The fields of a block that is fit to be read, or `refused 8`.
 fn fields_or(r: Reading, g: Ranged, v: &[u8], buf: &mut [u8], at: usize) -> usize
-    ensures { λ n. ⌜ n ≤ length (now (buf .entry)) ⌝ }
+    ensures { λ n. ⌜ Added (now (buf .entry)) at (fieldsOr (fieldsOf r g (now (v .entry)))) (now (buf .exit)) n ⌝ }
 {
     match block::fields(r, g, v) {
         FieldsOr::Shown(f) => lines::fields_line(buf, at, f),
@@ -35,7 +40,8 @@ fn fields_or(r: Reading, g: Ranged, v: &[u8], buf: &mut [u8], at: usize) -> usiz
 }
 
 fn many_numbers(r: Reading, a: Rle, v: &[u8], buf: &mut [u8], at: usize) -> usize
-    ensures { λ n. ⌜ n ≤ length (now (buf .entry)) ⌝ }
+    ensures { λ n. ⌜ Added (now (buf .entry)) at (listOr numbersLine (numbersShown r a (now (v .entry))))
+        (now (buf .exit)) n ⌝ }
 {
     let mut list = [0u16; MOST];
     match numbers::numbers(r, a, v, &mut list) {
@@ -45,7 +51,8 @@ fn many_numbers(r: Reading, a: Rle, v: &[u8], buf: &mut [u8], at: usize) -> usiz
 }
 
 fn numbers_or(r: Reading, a: Rle, v: &[u8], buf: &mut [u8], at: usize) -> usize
-    ensures { λ n. ⌜ n ≤ length (now (buf .entry)) ⌝ }
+    ensures { λ n. ⌜ Added (now (buf .entry)) at (listOr numbersLine (numbersShown r a (now (v .entry))))
+        (now (buf .exit)) n ⌝ }
 {
     let mut list = [0u16; FEW];
     match numbers::numbers(r, a, v, &mut list) {
@@ -55,7 +62,8 @@ fn numbers_or(r: Reading, a: Rle, v: &[u8], buf: &mut [u8], at: usize) -> usize
 }
 
 fn many_pairs(r: Reading, v: &[u8], buf: &mut [u8], at: usize) -> usize
-    ensures { λ n. ⌜ n ≤ length (now (buf .entry)) ⌝ }
+    ensures { λ n. ⌜ Added (now (buf .entry)) at (listOr pairsLine (pairsShown r (now (v .entry))))
+        (now (buf .exit)) n ⌝ }
 {
     let mut list = [0u16; MOST];
     let mut times = [0u32; MOST];
@@ -66,7 +74,8 @@ fn many_pairs(r: Reading, v: &[u8], buf: &mut [u8], at: usize) -> usize
 }
 
 fn pairs_or(r: Reading, v: &[u8], buf: &mut [u8], at: usize) -> usize
-    ensures { λ n. ⌜ n ≤ length (now (buf .entry)) ⌝ }
+    ensures { λ n. ⌜ Added (now (buf .entry)) at (listOr pairsLine (pairsShown r (now (v .entry))))
+        (now (buf .exit)) n ⌝ }
 {
     let mut list = [0u16; FEW];
     let mut times = [0u32; FEW];
@@ -77,7 +86,7 @@ fn pairs_or(r: Reading, v: &[u8], buf: &mut [u8], at: usize) -> usize
 }
 
 fn time_or(r: Reading, v: &[u8], buf: &mut [u8], at: usize) -> usize
-    ensures { λ n. ⌜ n ≤ length (now (buf .entry)) ⌝ }
+    ensures { λ n. ⌜ Added (now (buf .entry)) at (timeOr (timeOf r (now (v .entry)))) (now (buf .exit)) n ⌝ }
 {
     match block::time(r, v) {
         TimeOr::Time(t) => lines::time_line(buf, at, t.0),
@@ -86,7 +95,8 @@ fn time_or(r: Reading, v: &[u8], buf: &mut [u8], at: usize) -> usize
 }
 
 fn many_entries(r: Reading, v: &[u8], buf: &mut [u8], at: usize) -> usize
-    ensures { λ n. ⌜ n ≤ length (now (buf .entry)) ⌝ }
+    ensures { λ n. ⌜ Added (now (buf .entry)) at (listOr entriesLine (entriesShown r (now (v .entry))))
+        (now (buf .exit)) n ⌝ }
 {
     let mut a = [0u32; MOST];
     let mut b = [0u32; MOST];
@@ -98,7 +108,8 @@ fn many_entries(r: Reading, v: &[u8], buf: &mut [u8], at: usize) -> usize
 }
 
 fn entries_or(r: Reading, v: &[u8], buf: &mut [u8], at: usize) -> usize
-    ensures { λ n. ⌜ n ≤ length (now (buf .entry)) ⌝ }
+    ensures { λ n. ⌜ Added (now (buf .entry)) at (listOr entriesLine (entriesShown r (now (v .entry))))
+        (now (buf .exit)) n ⌝ }
 {
     let mut a = [0u32; FEW];
     let mut b = [0u32; FEW];
@@ -111,7 +122,8 @@ fn entries_or(r: Reading, v: &[u8], buf: &mut [u8], at: usize) -> usize
 
 // What stands behind the line of a block of types 1 to 3 that is fit to be read: its fields and its list.
 fn ranged(r: Reading, g: Ranged, v: &[u8], buf: &mut [u8], at: usize) -> usize
-    ensures { λ n. ⌜ n ≤ length (now (buf .entry)) ⌝ }
+    ensures { λ n. ⌜ Added (now (buf .entry)) at (contentsOf r (Kind.Spans g) (now (v .entry)))
+        (now (buf .exit)) n ⌝ }
 {
     let n = fields_or(r, g, v, buf, at);
     match g {
@@ -122,7 +134,7 @@ fn ranged(r: Reading, g: Ranged, v: &[u8], buf: &mut [u8], at: usize) -> usize
 
 // What stands behind a block's line, by its kind.
 fn contents(r: Reading, k: Kind, v: &[u8], buf: &mut [u8], at: usize) -> usize
-    ensures { λ n. ⌜ n ≤ length (now (buf .entry)) ⌝ }
+    ensures { λ n. ⌜ Added (now (buf .entry)) at (contentsOf r k (now (v .entry))) (now (buf .exit)) n ⌝ }
 {
     match k {
         Kind::Spans(g) => ranged(r, g, v, buf, at),
@@ -133,7 +145,8 @@ fn contents(r: Reading, k: Kind, v: &[u8], buf: &mut [u8], at: usize) -> usize
 
 // The same, or one `refused 7`.
 fn contents_or(r: Reading, k: Kind, v: &[u8], buf: &mut [u8], at: usize) -> usize
-    ensures { λ n. ⌜ n ≤ length (now (buf .entry)) ⌝ }
+    ensures { λ n. ⌜ Added (now (buf .entry)) at (unlessUnfit (checkOf r k (now (v .entry))) (contentsOf r k (now (v .entry))))
+        (now (buf .exit)) n ⌝ }
 {
     match block::check(r, k, v) {
         Checked::Fine => contents(r, k, v, buf, at),
@@ -143,10 +156,10 @@ fn contents_or(r: Reading, k: Kind, v: &[u8], buf: &mut [u8], at: usize) -> usiz
 
 // Block k, of which v is the view: its line, and what it shows. Other types than 1 to 5 show type and length only.
 fn one_block(r: Reading, k: usize, v: &[u8], buf: &mut [u8], at: usize) -> usize
-    ensures { λ n. ⌜ n ≤ length (now (buf .entry)) ⌝ }
+    ensures { λ n. ⌜ Added (now (buf .entry)) at (blockText r k (now (v .entry))) (now (buf .exit)) n ⌝ }
 {
     let h = xr::header_data(v);
-    let n = lines::block_line(buf, at, k, h);
+    let n = lines::block_line(buf, at, k, xr::block_type(h), xr::block_length(h));
     match records::kind_of(xr::block_type(h)) {
         KindOr::AKind(kind) => contents_or(r, kind, v, buf, n),
         KindOr::NoKind => n,
@@ -155,8 +168,9 @@ fn one_block(r: Reading, k: usize, v: &[u8], buf: &mut [u8], at: usize) -> usize
 
 // The blocks of an accepted packet, one after the other.
 fn blocks(r: Reading, packet: &[u8], count: usize, buf: &mut [u8], at: usize) -> usize
-    requires { ⌜ at ≤ length (now buf) ⌝ }
-    ensures { λ n. ⌜ n ≤ length (now (buf .entry)) ⌝ }
+    requires { ⌜ countOf r (now packet) ≡ Answer.Done count ⌝ }
+    ensures { λ n. ⌜ Added (now (buf .entry)) at (blocksText r (now (packet .entry)) 0 count)
+        (now (buf .exit)) n ⌝ }
 {
     let mut k: usize = 0;
     let mut place: usize = 8;
@@ -171,8 +185,7 @@ fn blocks(r: Reading, packet: &[u8], count: usize, buf: &mut [u8], at: usize) ->
 
 // A reading that refuses the packet is `refused N` alone.
 fn one_reading(r: Reading, packet: &[u8], buf: &mut [u8], at: usize) -> usize
-    requires { ⌜ at ≤ length (now buf) ⌝ }
-    ensures { λ n. ⌜ n ≤ length (now (buf .entry)) ⌝ }
+    ensures { λ n. ⌜ Added (now (buf .entry)) at (readingText r (now (packet .entry))) (now (buf .exit)) n ⌝ }
 {
     match xr::count(r, packet) {
         Answer::Done(count) => blocks(r, packet, count, buf, at),
@@ -182,7 +195,7 @@ fn one_reading(r: Reading, packet: &[u8], buf: &mut [u8], at: usize) -> usize
 
 // Both readings of a packet.
 pub fn dump(packet: &[u8], buf: &mut [u8], at: usize) -> usize
-    ensures { λ n. ⌜ n ≤ length (now (buf .entry)) ⌝ }
+    ensures { λ n. ⌜ Added (now (buf .entry)) at (dumpText (now (packet .entry))) (now (buf .exit)) n ⌝ }
 {
     if MAX_INPUT < packet.len() {
         return print::text(buf, at, b"refused 11\n");
