@@ -36,20 +36,20 @@ held-append (x ∷ a) b l at =
     ∙ ap (λ (n : ℕ). heldAfter (heldAfter (set l i x) w a) (waitsAfter n w a) b) (length-set l i x)
 
 -- where there is room, a byte goes behind those that wait
-goes-here : (n at : ℕ) → at < n → goesTo n at ≡ at
+pub goes-here : (n at : ℕ) → at < n → goesTo n at ≡ at
 goes-here n at h = rw (lt-ltb _ _ h)
 
-waits-there : (n at : ℕ) → at < n → waitsThen n at ≡ suc at
+pub waits-there : (n at : ℕ) → at < n → waitsThen n at ≡ suc at
 waits-there n at h = rw (goes-here n at h, add-one) (min-eq-left h)
 
-waits-fits : (text : List ℕ) (n at : ℕ) → at + length text ≤ n → waitsAfter n at text ≡ at + length text
+pub waits-fits : (text : List ℕ) (n at : ℕ) → at + length text ≤ n → waitsAfter n at text ≡ at + length text
 unfolding waitsAfter
 waits-fits [] n at h = sym (add-zero at)
 waits-fits (b ∷ text) n at h =
     let k : at < n = omega arith in
     ap (λ (w : ℕ). waitsAfter n w text) (waits-there n at k) ∙ waits-fits text n (suc at) (omega arith) ∙ omega arith
 
-held-fits : (text l : List ℕ) (at : ℕ) → at + length text ≤ length l → heldAfter l at text ≡ sets l at text
+pub held-fits : (text l : List ℕ) (at : ℕ) → at + length text ≤ length l → heldAfter l at text ≡ sets l at text
 unfolding heldAfter
 held-fits [] l at h = refl
 held-fits (b ∷ text) l at h =
@@ -87,7 +87,7 @@ fits {l} {l′} {text} {at} h w =
     }
 
 -- one byte: into room; to the front of a full buffer; to a buffer of no bytes
-goes-front : (n at : ℕ) → n ≤ at → goesTo n at ≡ 0
+pub goes-front : (n at : ℕ) → n ≤ at → goesTo n at ≡ 0
 goes-front n at h = rw (le-ltb _ _ h)
 
 module _ {l : List ℕ} {at : ℕ} (b : ℕ) where

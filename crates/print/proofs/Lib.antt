@@ -2,3 +2,4 @@
 pub mod AddedLaws
 pub mod DigitLaws
 pub mod ListLaws
+pub mod Unique

@@ -1,0 +1,2 @@
+-- Unique (no second answer satisfies a contract).
+pub mod Unique
