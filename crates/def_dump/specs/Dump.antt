@@ -31,8 +31,7 @@ use Rattle.def_wire.specs.declared.TimeOr.the-variants.{Time, NoTime}
 use Rattle.def_wire.specs.Packet.{placeOf, viewFrom, countOf}
 use Rattle.def_wire.specs.Block.{typeOf, blockLength, kindOf, checkOf, fieldsOf, timeOf}
 use Rattle.def_questions.specs.Questions.{numbersShown, pairsShown, entriesShown}
-use Rattle.def_text.specs.Numerals.{ascii}
-use Rattle.def_dump.specs.Lines.{refusedLine, blockLine, fieldsLine, timeLine, numbersLine, pairsLine, entriesLine}
+use Rattle.def_dump.specs.Lines.{refusedLine, readingLine, blockLine, fieldsLine, timeLine, numbersLine, pairsLine, entriesLine}
 
 -- the most items that are shown of one list
 abbrev pub mostShown : ℕ
@@ -97,5 +96,5 @@ readingText r s = countedText r s (countOf r s)
 -- both readings, the standard one first; the one line `refused 11`, where the packet is too long to be dumped
 unfoldable pub dumpText : List ℕ → List ℕ
 dumpText s =
-    cond (ltb longestDumped (length s)) (ascii "refused 11\n")
-    (ascii "reading standard\n" ++ readingText Standard s ++ ascii "reading crate\n" ++ readingText Crate s)
+    cond (ltb longestDumped (length s)) (refusedLine (NoRoom (length s) longestDumped))
+    (readingLine Standard ++ readingText Standard s ++ readingLine Crate ++ readingText Crate s)

@@ -4,6 +4,8 @@ use Prim.Native.Nat.{ℕ}
 use mathlib.Core.List.{List, [], _∷_, _++_}
 use Rattle.def_refusals.specs.declared.Refusal.{Refusal}
 use Rattle.def_refusals.specs.Numbers.{numbered}
+use Rattle.def_wire.specs.declared.Reading.{Reading}
+use Rattle.def_wire.specs.declared.Reading.the-variants.{Standard, Crate}
 use Rattle.def_wire.specs.declared.Fields.{Fields}
 use Rattle.def_standard.specs.declared.Receipt.{Receipt}
 use Rattle.def_standard.specs.declared.Echo.{Echo}
@@ -18,6 +20,11 @@ refusedLine x = labelled (ascii "refused") (numbered x .number) ++ lineEnd
 unfoldable pub refusalLine : Refusal → List ℕ
 refusalLine x =
     labelled (ascii "refused") (numbered x .number) ++ spaced (numbered x .first) ++ spaced (numbered x .second) ++ lineEnd
+
+-- `reading standard`, `reading crate`
+abbrev pub readingLine : Reading → List ℕ
+readingLine Standard = ascii "reading standard" ++ lineEnd
+readingLine Crate = ascii "reading crate" ++ lineEnd
 
 -- `block K type T length L`
 unfoldable pub blockLine : ℕ → ℕ → ℕ → List ℕ

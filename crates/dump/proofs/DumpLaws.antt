@@ -27,7 +27,8 @@ use Rattle.def_wire.specs.Block.{headerData, typeOf, blockLength, kindOf, check
 use Rattle.xr.proofs.WalkLaws.{place-next, count-done, counted-within}
 use Rattle.reader.proofs.PlacesLaws.{next-within}
 use Rattle.def_questions.specs.Questions.{numbersShown, pairsShown, entriesShown}
-use Rattle.def_text.specs.Numerals.{ascii}
+use Rattle.def_refusals.specs.Numbers.{numbered}
+use Rattle.def_text.specs.Numerals.{ascii, decimalWithin}
 use Rattle.def_dump.specs.Lines.{refusedLine, blockLine, numbersLine, pairsLine, entriesLine}
 use Rattle.def_dump.specs.Dump.{listOr, fieldsOr, timeOr, contentsOf, unlessUnfit, blockText, blocksText}
 use Rattle.def_dump.specs.Dump.{countedText, readingText, longestDumped, dumpText}
@@ -102,10 +103,11 @@ module _ (r : Reading) (s : List ℕ) (a : Answer) (e : a ≡ countOf r s) where
 
 module _ (s : List ℕ) where
   pub dump-long : longestDumped < length s → ascii "refused 11\n" ≡ dumpText s
-  unfolding dumpText
+  unfolding numbered decimalWithin refusedLine dumpText
   dump-long h = rw (lt-ltb _ _ h)
 
   pub dump-both : length s ≤ longestDumped
-      → ascii "reading standard\n" ++ readingText Standard s ++ ascii "reading crate\n" ++ readingText Crate s ≡ dumpText s
+      → ascii "reading standard\n" ++ readingText Standard s ++ ascii "reading crate\n" ++ readingText Crate s
+      ≡ dumpText s
   unfolding dumpText
   dump-both h = rw (le-ltb _ _ h)
