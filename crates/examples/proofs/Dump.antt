@@ -56,6 +56,7 @@ blocks-hold =
       echoes = refl;
       others = (refl, refl);
       unfit = (refl, refl, refl, refl);
+      no-time = refl;
       cut = refl;
     }
 

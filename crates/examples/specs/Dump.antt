@@ -6,10 +6,11 @@ use lib.ListN.{replicate}
 use Rattle.def_refusals.specs.declared.Refusal.the-variants.{WrongVersion, BlockTooLong, BadBlockLength}
 use Rattle.def_refusals.specs.Answers.{shown, refused}
 use Rattle.def_wire.specs.declared.Reading.the-variants.{Standard, Crate}
+use Rattle.def_wire.specs.Block.{timeOf}
 use Rattle.def_cursor.specs.Cursor.{cursor}
 use Rattle.def_dump.specs.Lines.{refusedLine, refusalLine, blockLine, fieldsLine, timeLine, numbersLine, wordsLine}
 use Rattle.def_dump.specs.Lines.{pairsLine, entriesLine, takenLine, wordLine, blocksLine, viewLine, packetLine}
-use Rattle.def_dump.specs.Dump.{listOr, blockText, blocksText, readingText, dumpText}
+use Rattle.def_dump.specs.Dump.{listOr, timeOr, blockText, blocksText, readingText, dumpText}
 use Rattle.examples.specs.Vectors.{packet4}
 use Rattle.examples.specs.Rows.{rows, packet, padded, fields}
 use Rattle.examples.specs.Standard.{echo, pair}
@@ -83,6 +84,8 @@ pub record Blocks : Type 0 where
       × (blockText Standard 0 (rows (0x03000001 ∷ 7 ∷ [])) ≡ textOf ("block 0 type 3 length 8" ∷ "refused 7" ∷ []))
       × (blockText Standard 0 (rows (0x04000001 ∷ 7 ∷ [])) ≡ textOf ("block 0 type 4 length 8" ∷ "refused 7" ∷ []))
       × (blockText Standard 0 (rows (0x05000001 ∷ 7 ∷ [])) ≡ textOf ("block 0 type 5 length 8" ∷ "refused 7" ∷ []))
+  -- a time that is refused
+  pub no-time : timeOr (timeOf Standard (rows (0x04000001 ∷ 7 ∷ []))) ≡ textOf ("refused 7" ∷ [])
   -- `refused 8` in place of the fields' line alone, and then the empty list
   pub cut :
       blockText Crate 0 (rows (0x03000001 ∷ 7 ∷ []))
