@@ -45,7 +45,8 @@ reaches (b ∷ text) l at h k =
     let g : w ≡ suc at = waits-there (length l) at a in
     let p : take w m ≡ take at l ++ (b ∷ []) =
     ap (λ (j : ℕ). take w (set l j b)) f ∙ ap (λ (j : ℕ). take j (set l at b)) g ∙ take-suc-set l at b a in
-    ap (λ (c : Bool). (cond c [] l ++ sentAfter m w text) ++ take (waitsAfter (length l) w text) (heldAfter m w text)) t
+    ap (λ (c : Bool). (cond c [] l ++ sentAfter m w text) ++ take (waitsAfter (length l) w text) (heldAfter m w text))
+    t
     ∙ r ∙ ap (λ (x : List ℕ). x ++ text) p ∙ append-assoc (take at l) (b ∷ []) text)
     (λ t.
     let a : length l ≤ at = ltb-false _ _ t in
@@ -54,7 +55,8 @@ reaches (b ∷ text) l at h k =
     let g : w ≡ suc 0 = waits-front (length l) at h a in
     let p : take w m ≡ b ∷ [] =
     ap (λ (j : ℕ). take w (set l j b)) f ∙ ap (λ (j : ℕ). take j (set l 0 b)) g ∙ take-suc-set l 0 b h in
-    ap (λ (c : Bool). (cond c [] l ++ sentAfter m w text) ++ take (waitsAfter (length l) w text) (heldAfter m w text)) t
+    ap (λ (c : Bool). (cond c [] l ++ sentAfter m w text) ++ take (waitsAfter (length l) w text) (heldAfter m w text))
+    t
     ∙ append-assoc l (sentAfter m w text) (take (waitsAfter (length l) w text) (heldAfter m w text))
     ∙ ap (λ (x : List ℕ). l ++ x) (r ∙ ap (λ (x : List ℕ). x ++ text) p)
     ∙ ap (λ (x : List ℕ). x ++ (b ∷ text)) (sym (ap (λ (j : ℕ). take j l) z ∙ take-length l)))
@@ -178,7 +180,8 @@ decimals : (k n : ℕ) → n < 10 ^ suc k → Decimal n (decimalWithin k n)
 unfolding decimalWithin
 decimals zero n h = alone n h
 decimals (suc k) n h =
-    let P : Bool → Type 0 = λ c. Decimal n (cond c (glyph n ∷ []) (decimalWithin k (n / 10) ++ (glyph (n % 10) ∷ []))) in
+    let P : Bool → Type 0 = λ c. Decimal n
+    (cond c (glyph n ∷ []) (decimalWithin k (n / 10) ++ (glyph (n % 10) ∷ []))) in
     either (ltb n 10)
     (λ t. subst⁻¹ P t (alone n (ltb-true _ _ t)))
     (λ t.

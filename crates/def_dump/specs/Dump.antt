@@ -31,7 +31,16 @@ use Rattle.def_wire.specs.declared.TimeOr.the-variants.{Time, NoTime}
 use Rattle.def_wire.specs.Packet.{placeOf, viewFrom, countOf}
 use Rattle.def_wire.specs.Block.{typeOf, blockLength, kindOf, checkOf, fieldsOf, timeOf}
 use Rattle.def_questions.specs.Questions.{numbersShown, pairsShown, entriesShown}
-use Rattle.def_dump.specs.Lines.{refusedLine, readingLine, blockLine, fieldsLine, timeLine, numbersLine, pairsLine, entriesLine}
+use Rattle.def_dump.specs.Lines.{
+  refusedLine,
+  readingLine,
+  blockLine,
+  fieldsLine,
+  timeLine,
+  numbersLine,
+  pairsLine,
+  entriesLine,
+}
 
 -- the most items that are shown of one list
 abbrev pub mostShown : ℕ

@@ -19,7 +19,8 @@ refusedLine x = labelled (ascii "refused") (numbered x .number) ++ lineEnd
 -- `refused N A B`, everywhere else
 unfoldable pub refusalLine : Refusal → List ℕ
 refusalLine x =
-    labelled (ascii "refused") (numbered x .number) ++ spaced (numbered x .first) ++ spaced (numbered x .second) ++ lineEnd
+    labelled (ascii "refused") (numbered x .number) ++ spaced (numbered x .first) ++ spaced (numbered x .second) ++
+    lineEnd
 
 -- `reading standard`, `reading crate`
 abbrev pub readingLine : Reading → List ℕ

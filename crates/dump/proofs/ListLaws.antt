@@ -108,7 +108,8 @@ module _ {whole : Or (List Receipt)} {ns ts ns′ ts′ : List ℕ} {r : Answer}
       )) ∙ two-parts (g .items))
       ∙ line-of pairsLine whole room n g h
 
-  pub pairs-not-shown : {x : Refusal} → r ≡ Refused x → ListedPairs whole ns ts r ns′ ts′ → min (length ns) (length ts) ≡ mostShown
+  pub pairs-not-shown : {x : Refusal} → r ≡ Refused x → ListedPairs whole ns ts r ns′ ts′ → min (length ns) (length ts)
+      ≡ mostShown
       → refusedLine x ≡ listOr pairsLine whole
   pairs-not-shown {x} e d h = refused-of pairsLine whole x (sym e ∙ d .answer ∙ ap (answerOf whole) h)
 
@@ -126,6 +127,7 @@ module _ {whole : Or (List Echo)} {ss ls ds ss′ ls′ ds′ : List ℕ} {r : A
       )) ∙ three-parts (g .items))
       ∙ line-of entriesLine whole room n g h
 
-  pub entries-not-shown : {x : Refusal} → r ≡ Refused x → ListedEntries whole ss ls ds r ss′ ls′ ds′ → least3 ss ls ds ≡ mostShown
+  pub entries-not-shown : {x : Refusal} → r ≡ Refused x → ListedEntries whole ss ls ds r ss′ ls′ ds′ → least3 ss ls ds
+      ≡ mostShown
       → refusedLine x ≡ listOr entriesLine whole
   entries-not-shown {x} e d h = refused-of entriesLine whole x (sym e ∙ d .answer ∙ ap (answerOf whole) h)

@@ -38,14 +38,18 @@ loop-again c =
     let h = d .loop-test .taken in (
       omega (arith, h),
       c .moved-from .ensures ∙ place-after (a .r) (a .packet .now) (a .count) (e .k) (e .place) (b .pre) h (e .inv .1),
-      next (blocks-next (a .r) (a .packet .now) (a .count) (e .k) (e .place) _ h (e .inv .1) (v .view-from .ensures .0))
+      next (blocks-next (a .r) (a .packet .now) (a .count) (e .k) (e .place) _ h (e .inv .1)
+          (v .view-from .ensures .0))
           (o .one-block .ensures) (e .inv .2),
     )
 
 returns : tie.Need-returns Inv-loop μ-loop
 returns c =
     let a = c .before .before .before .before .args in
-    done (blocks-end (a .r) (a .packet .now) (a .count) (c .before .loop .k) (c .loop-test .left)) (c .before .loop .inv .2)
+    done (blocks-end (a .r) (a .packet .now) (a .count) (c .before .loop .k) (c .loop-test .left))
+    (c .before .loop .inv .2)
 
 pub blocks-spec : {M : Type 1} → statement M
-blocks-spec = tie.close (tie.spec Inv-loop μ-loop loop-holds (λ c κs. search needs) (λ c κs. search needs) (λ c κs. search needs) (λ c. search needs) (λ c. search needs) loop-again (λ c. search needs) returns)
+blocks-spec = tie.close
+    (tie.spec Inv-loop μ-loop loop-holds (λ c κs. search needs) (λ c κs. search needs) (λ c κs. search needs)
+    (λ c. search needs) (λ c. search needs) loop-again (λ c. search needs) returns)

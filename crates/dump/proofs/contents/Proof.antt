@@ -12,15 +12,20 @@ returns : tie.Need-returns
 returns c =
     let d = c .before .before .before .before .before in
     let a = d .before .before .before .before .args in
-    reads (ap (λ (k : Kind). contentsOf (a .r) k (a .v .now)) (sym (d .k .given .1))) (c .before .before .ranged .ensures)
+    reads (ap (λ (k : Kind). contentsOf (a .r) k (a .v .now)) (sym (d .k .given .1)))
+    (c .before .before .ranged .ensures)
 
 returns-2 : tie.Need-returns-2
 returns-2 c =
-    reads (clock-contents _ _ _ (c .before .before .before .before .enum-told .given .1)) (c .before .before .time-or .ensures)
+    reads (clock-contents _ _ _ (c .before .before .before .before .enum-told .given .1))
+    (c .before .before .time-or .ensures)
 
 returns-3 : tie.Need-returns-3
 returns-3 c =
-    reads (echo-contents _ _ _ (c .before .before .before .before .enum-told2 .given .1)) (c .before .before .entries-or .ensures)
+    reads (echo-contents _ _ _ (c .before .before .before .before .enum-told2 .given .1))
+    (c .before .before .entries-or .ensures)
 
 pub contents-spec : {M : Type 1} → statement M
-contents-spec = tie.close (tie.spec (λ c. search needs) (λ c κs. search needs) (λ c. search needs) (λ c κs. search needs) (λ c. search needs) (λ c κs. search needs) (λ c. search needs) returns (λ c. search needs) returns-2 (λ c. search needs) returns-3)
+contents-spec = tie.close
+    (tie.spec (λ c. search needs) (λ c κs. search needs) (λ c. search needs) (λ c κs. search needs) (λ c. search needs)
+    (λ c κs. search needs) (λ c. search needs) returns (λ c. search needs) returns-2 (λ c. search needs) returns-3)

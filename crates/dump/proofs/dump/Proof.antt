@@ -16,7 +16,11 @@ returns-2 c =
     let p = t .before .before .before .before .before in
     let s = p .before .before .before .before in
     reads (dump-both _ (s .before .before .before .if1 .left))
-    (and-then (and-then (and-then (s .text2 .ensures) (p .one-reading .ensures)) (t .text3 .ensures)) (q .one-reading2 .ensures))
+    (and-then (and-then (and-then (s .text2 .ensures) (p .one-reading .ensures)) (t .text3 .ensures))
+    (q .one-reading2 .ensures))
 
 pub dump-spec : {M : Type 1} → statement M
-dump-spec = tie.close (tie.spec (λ c. search needs) (λ c κs. search needs) (λ c. search needs) returns (λ c. search needs) (λ c κs. search needs) (λ c κs. search needs) (λ c. search needs) (λ c κs. search needs) (λ c κs. search needs) (λ c. search needs) returns-2)
+dump-spec = tie.close
+    (tie.spec (λ c. search needs) (λ c κs. search needs) (λ c. search needs) returns (λ c. search needs)
+    (λ c κs. search needs) (λ c κs. search needs) (λ c. search needs) (λ c κs. search needs) (λ c κs. search needs)
+    (λ c. search needs) returns-2)

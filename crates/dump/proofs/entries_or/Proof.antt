@@ -9,7 +9,11 @@ use Rattle.dump.proofs.entries_or.Tie as tie
 returns : tie.Need-returns
 returns c =
     let d = c .before .before .before .before .before .before .before .before in
-    reads (entries-shown (d .n .given .1) (d .before .before .before .before .before .entries .ensures) (omega arith)) (c .before .before .entries-line .ensures)
+    reads (entries-shown (d .n .given .1) (d .before .before .before .before .before .entries .ensures) (omega arith))
+    (c .before .before .entries-line .ensures)
 
 pub entries-or-spec : {M : Type 1} → statement M
-entries-or-spec = tie.close (tie.spec (λ c. search needs) (λ c. search needs) (λ c. search needs) (λ c κs. search needs) (λ c. search needs) (λ c. search needs) (λ c. search needs) (λ c. search needs) (λ c κs. search needs) (λ c. search needs) (λ c κs. search needs) (λ c. search needs) returns (λ c. search needs) (λ c. search needs))
+entries-or-spec = tie.close
+    (tie.spec (λ c. search needs) (λ c. search needs) (λ c. search needs) (λ c κs. search needs) (λ c. search needs)
+    (λ c. search needs) (λ c. search needs) (λ c. search needs) (λ c κs. search needs) (λ c. search needs)
+    (λ c κs. search needs) (λ c. search needs) returns (λ c. search needs) (λ c. search needs))

@@ -9,12 +9,16 @@ use Rattle.dump.proofs.fields_or.Tie as tie
 returns : tie.Need-returns
 returns c =
     let d = c .before .before .before .before .before in
-    reads (ap fieldsOr (sym (d .f .given .1) ∙ d .before .before .fields .ensures)) (c .before .before .fields-line .ensures)
+    reads (ap fieldsOr (sym (d .f .given .1) ∙ d .before .before .fields .ensures))
+    (c .before .before .fields-line .ensures)
 
 returns-2 : tie.Need-returns-2
 returns-2 c =
     let d = c .before .before .before .before .before in
-    reads (ap fieldsOr (sym (d .x .given .1) ∙ d .before .before .fields .ensures)) (c .before .before .refused-line .ensures)
+    reads (ap fieldsOr (sym (d .x .given .1) ∙ d .before .before .fields .ensures))
+    (c .before .before .refused-line .ensures)
 
 pub fields-or-spec : {M : Type 1} → statement M
-fields-or-spec = tie.close (tie.spec (λ c κs. search needs) (λ c. search needs) (λ c κs. search needs) (λ c. search needs) (λ c κs. search needs) (λ c. search needs) returns (λ c. search needs) returns-2)
+fields-or-spec = tie.close
+    (tie.spec (λ c κs. search needs) (λ c. search needs) (λ c κs. search needs) (λ c. search needs)
+    (λ c κs. search needs) (λ c. search needs) returns (λ c. search needs) returns-2)

@@ -14,12 +14,16 @@ blocks-requires c κs =
 returns : tie.Need-returns
 returns c =
     let d = c .before .before .before .before .before in
-    reads (reading-blocks _ _ _ (d .before .before .count .ensures) _ (d .count2 .given .1)) (c .before .before .blocks2 .ensures)
+    reads (reading-blocks _ _ _ (d .before .before .count .ensures) _ (d .count2 .given .1))
+    (c .before .before .blocks2 .ensures)
 
 returns-2 : tie.Need-returns-2
 returns-2 c =
     let d = c .before .before .before .before .before in
-    reads (reading-refused _ _ _ (d .before .before .count .ensures) _ (d .x .given .1)) (c .before .before .refused-line .ensures)
+    reads (reading-refused _ _ _ (d .before .before .count .ensures) _ (d .x .given .1))
+    (c .before .before .refused-line .ensures)
 
 pub one-reading-spec : {M : Type 1} → statement M
-one-reading-spec = tie.close (tie.spec (λ c κs. search needs) (λ c. search needs) blocks-requires (λ c. search needs) (λ c κs. search needs) (λ c. search needs) returns (λ c. search needs) returns-2)
+one-reading-spec = tie.close
+    (tie.spec (λ c κs. search needs) (λ c. search needs) blocks-requires (λ c. search needs) (λ c κs. search needs)
+    (λ c. search needs) returns (λ c. search needs) returns-2)

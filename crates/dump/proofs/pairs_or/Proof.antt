@@ -9,7 +9,11 @@ use Rattle.dump.proofs.pairs_or.Tie as tie
 returns : tie.Need-returns
 returns c =
     let d = c .before .before .before .before .before .before .before in
-    reads (pairs-shown (d .n .given .1) (d .before .before .before .before .pairs .ensures) (omega arith)) (c .before .before .pairs-line .ensures)
+    reads (pairs-shown (d .n .given .1) (d .before .before .before .before .pairs .ensures) (omega arith))
+    (c .before .before .pairs-line .ensures)
 
 pub pairs-or-spec : {M : Type 1} → statement M
-pairs-or-spec = tie.close (tie.spec (λ c. search needs) (λ c. search needs) (λ c κs. search needs) (λ c. search needs) (λ c. search needs) (λ c. search needs) (λ c κs. search needs) (λ c. search needs) (λ c κs. search needs) (λ c. search needs) returns (λ c. search needs) (λ c. search needs))
+pairs-or-spec = tie.close
+    (tie.spec (λ c. search needs) (λ c. search needs) (λ c κs. search needs) (λ c. search needs) (λ c. search needs)
+    (λ c. search needs) (λ c κs. search needs) (λ c. search needs) (λ c κs. search needs) (λ c. search needs) returns
+    (λ c. search needs) (λ c. search needs))

@@ -14,7 +14,10 @@ returns c =
 returns-2 : tie.Need-returns-2
 returns-2 c =
     let d = c .before .before .before .before .before in
-    reads (ap timeOr (sym (d .x .given .1) ∙ d .before .before .time .ensures)) (c .before .before .refused-line .ensures)
+    reads (ap timeOr (sym (d .x .given .1) ∙ d .before .before .time .ensures))
+    (c .before .before .refused-line .ensures)
 
 pub time-or-spec : {M : Type 1} → statement M
-time-or-spec = tie.close (tie.spec (λ c κs. search needs) (λ c. search needs) (λ c κs. search needs) (λ c. search needs) (λ c κs. search needs) (λ c. search needs) returns (λ c. search needs) returns-2)
+time-or-spec = tie.close
+    (tie.spec (λ c κs. search needs) (λ c. search needs) (λ c κs. search needs) (λ c. search needs)
+    (λ c κs. search needs) (λ c. search needs) returns (λ c. search needs) returns-2)

@@ -12,7 +12,10 @@ returns c =
     let q = p .before .before .before .before in
     let r = q .before .before .before .before .before in
     let s = r .before .before .before .before .before in
-    and-then (and-then (and-then (s .labelled .ensures) (r .labelled2 .ensures)) (q .labelled3 .ensures)) (p .line-end .ensures)
+    and-then (and-then (and-then (s .labelled .ensures) (r .labelled2 .ensures)) (q .labelled3 .ensures))
+    (p .line-end .ensures)
 
 pub block-line-spec : {M : Type 1} → statement M
-block-line-spec = tie.close (tie.spec (λ c. search needs) (λ c κs. search needs) (λ c. search needs) (λ c κs. search needs) (λ c. search needs) (λ c κs. search needs) (λ c κs. search needs) (λ c. search needs) returns)
+block-line-spec = tie.close
+    (tie.spec (λ c. search needs) (λ c κs. search needs) (λ c. search needs) (λ c κs. search needs) (λ c. search needs)
+    (λ c κs. search needs) (λ c κs. search needs) (λ c. search needs) returns)

@@ -14,4 +14,6 @@ returns c =
     and-then (and-then (r .labelled .ensures) (q .labelled2 .ensures)) (p .line-end .ensures)
 
 pub blocks-line-spec : {M : Type 1} → statement M
-blocks-line-spec = tie.close (tie.spec (λ c. search needs) (λ c κs. search needs) (λ c. search needs) (λ c κs. search needs) (λ c κs. search needs) (λ c. search needs) returns)
+blocks-line-spec = tie.close
+    (tie.spec (λ c. search needs) (λ c κs. search needs) (λ c. search needs) (λ c κs. search needs)
+    (λ c κs. search needs) (λ c. search needs) returns)

@@ -14,4 +14,6 @@ returns c =
     and-then (and-then (r .text .ensures) (q .list-entries .ensures)) (p .line-end .ensures)
 
 pub entries-line-spec : {M : Type 1} → statement M
-entries-line-spec = tie.close (tie.spec (λ c. search needs) (λ c κs. search needs) (λ c κs. search needs) (λ c κs. search needs) (λ c. search needs) returns)
+entries-line-spec = tie.close
+    (tie.spec (λ c. search needs) (λ c κs. search needs) (λ c κs. search needs) (λ c κs. search needs)
+    (λ c. search needs) returns)

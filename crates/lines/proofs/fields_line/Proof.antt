@@ -13,7 +13,11 @@ returns c =
     let r = q .before .before .before .before .before .before in
     let s = r .before .before .before .before .before .before in
     let t = s .before .before .before .before .before .before in
-    and-then (and-then (and-then (and-then (t .labelled .ensures) (s .labelled2 .ensures)) (r .labelled3 .ensures)) (q .labelled4 .ensures)) (p .line-end .ensures)
+    and-then (and-then (and-then (and-then (t .labelled .ensures) (s .labelled2 .ensures)) (r .labelled3 .ensures))
+    (q .labelled4 .ensures)) (p .line-end .ensures)
 
 pub fields-line-spec : {M : Type 1} → statement M
-fields-line-spec = tie.close (tie.spec (λ c. search needs) (λ c. search needs) (λ c κs. search needs) (λ c. search needs) (λ c. search needs) (λ c κs. search needs) (λ c. search needs) (λ c. search needs) (λ c κs. search needs) (λ c. search needs) (λ c. search needs) (λ c κs. search needs) (λ c κs. search needs) (λ c. search needs) returns)
+fields-line-spec = tie.close
+    (tie.spec (λ c. search needs) (λ c. search needs) (λ c κs. search needs) (λ c. search needs) (λ c. search needs)
+    (λ c κs. search needs) (λ c. search needs) (λ c. search needs) (λ c κs. search needs) (λ c. search needs)
+    (λ c. search needs) (λ c κs. search needs) (λ c κs. search needs) (λ c. search needs) returns)

@@ -14,4 +14,6 @@ returns c =
     and-then (and-then (r .text .ensures) (q .hex-list .ensures)) (p .line-end .ensures)
 
 pub packet-line-spec : {M : Type 1} → statement M
-packet-line-spec = tie.close (tie.spec (λ c. search needs) (λ c κs. search needs) (λ c κs. search needs) (λ c κs. search needs) (λ c. search needs) returns)
+packet-line-spec = tie.close
+    (tie.spec (λ c. search needs) (λ c κs. search needs) (λ c κs. search needs) (λ c κs. search needs)
+    (λ c. search needs) returns)

@@ -14,4 +14,6 @@ returns c =
     and-then (and-then (r .text .ensures) (q .list-pairs .ensures)) (p .line-end .ensures)
 
 pub pairs-line-spec : {M : Type 1} → statement M
-pairs-line-spec = tie.close (tie.spec (λ c. search needs) (λ c κs. search needs) (λ c κs. search needs) (λ c κs. search needs) (λ c. search needs) returns)
+pairs-line-spec = tie.close
+    (tie.spec (λ c. search needs) (λ c κs. search needs) (λ c κs. search needs) (λ c κs. search needs)
+    (λ c. search needs) returns)

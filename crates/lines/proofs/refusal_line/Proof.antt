@@ -13,7 +13,11 @@ returns c =
     let r = q .before .before .before .before in
     let s = r .before .before .before .before in
     let t = s .before .before .before .before in
-    rw (← t .number .ensures) (and-then (and-then (and-then (s .labelled .ensures) (r .number2 .ensures)) (q .number3 .ensures)) (p .line-end .ensures))
+    rw (← t .number .ensures)
+    (and-then (and-then (and-then (s .labelled .ensures) (r .number2 .ensures)) (q .number3 .ensures))
+    (p .line-end .ensures))
 
 pub refusal-line-spec : {M : Type 1} → statement M
-refusal-line-spec = tie.close (tie.spec (λ c κs. search needs) (λ c. search needs) (λ c. search needs) (λ c κs. search needs) (λ c κs. search needs) (λ c κs. search needs) (λ c κs. search needs) (λ c. search needs) returns)
+refusal-line-spec = tie.close
+    (tie.spec (λ c κs. search needs) (λ c. search needs) (λ c. search needs) (λ c κs. search needs)
+    (λ c κs. search needs) (λ c κs. search needs) (λ c κs. search needs) (λ c. search needs) returns)

@@ -14,4 +14,6 @@ returns c =
     rw (← r .number .ensures) (and-then (q .labelled .ensures) (p .line-end .ensures))
 
 pub refused-line-spec : {M : Type 1} → statement M
-refused-line-spec = tie.close (tie.spec (λ c κs. search needs) (λ c. search needs) (λ c. search needs) (λ c κs. search needs) (λ c κs. search needs) (λ c. search needs) returns)
+refused-line-spec = tie.close
+    (tie.spec (λ c κs. search needs) (λ c. search needs) (λ c. search needs) (λ c κs. search needs)
+    (λ c κs. search needs) (λ c. search needs) returns)

@@ -13,4 +13,5 @@ returns c =
     and-then (q .labelled .ensures) (p .line-end .ensures)
 
 pub time-line-spec : {M : Type 1} → statement M
-time-line-spec = tie.close (tie.spec (λ c. search needs) (λ c κs. search needs) (λ c κs. search needs) (λ c. search needs) returns)
+time-line-spec = tie.close
+    (tie.spec (λ c. search needs) (λ c κs. search needs) (λ c κs. search needs) (λ c. search needs) returns)

@@ -16,7 +16,10 @@ returns c =
     let r = q .before .before .before .before in
     let s = r .before .before .before .before .before in
     let t = s .before .before .before .before in
-    and-then (and-then (and-then (and-then (t .labelled .ensures) (s .number .ensures)) (r .text .ensures)) (reads (ap hexesOf (take-length _)) (q .hex-list .ensures))) (p .line-end .ensures)
+    and-then (and-then (and-then (and-then (t .labelled .ensures) (s .number .ensures)) (r .text .ensures))
+    (reads (ap hexesOf (take-length _)) (q .hex-list .ensures))) (p .line-end .ensures)
 
 pub view-line-spec : {M : Type 1} → statement M
-view-line-spec = tie.close (tie.spec (λ c. search needs) (λ c κs. search needs) (λ c κs. search needs) (λ c. search needs) (λ c κs. search needs) (λ c κs. search needs) (λ c κs. search needs) (λ c. search needs) returns)
+view-line-spec = tie.close
+    (tie.spec (λ c. search needs) (λ c κs. search needs) (λ c κs. search needs) (λ c. search needs)
+    (λ c κs. search needs) (λ c κs. search needs) (λ c κs. search needs) (λ c. search needs) returns)

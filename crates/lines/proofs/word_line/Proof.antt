@@ -15,4 +15,6 @@ returns c =
     and-then (and-then (and-then (s .text .ensures) (r .hex .ensures)) (q .hex2 .ensures)) (p .line-end .ensures)
 
 pub word-line-spec : {M : Type 1} → statement M
-word-line-spec = tie.close (tie.spec (λ c. search needs) (λ c κs. search needs) (λ c κs. search needs) (λ c κs. search needs) (λ c κs. search needs) (λ c. search needs) returns)
+word-line-spec = tie.close
+    (tie.spec (λ c. search needs) (λ c κs. search needs) (λ c κs. search needs) (λ c κs. search needs)
+    (λ c κs. search needs) (λ c. search needs) returns)

@@ -11,7 +11,8 @@ returns c =
     let s = c .before .before in
     let d = s .before .before .before in
     let w = d .decimal .ensures .1 .0 in
-    reads (d .decimal .ensures .1 .1 ∙ sym (decimal-digits 19 _ _ (at-most-20 _ _ (search needs) w) w)) (s .slowly .ensures)
+    reads (d .decimal .ensures .1 .1 ∙ sym (decimal-digits 19 _ _ (at-most-20 _ _ (search needs) w) w))
+    (s .slowly .ensures)
 
 pub decimal-slowly-spec : {M : Type 1} → statement M
 decimal-slowly-spec =

@@ -9,7 +9,8 @@ returns : tie.Need-returns
 returns c =
     let d = c .before .before in
     let e = d .before .before .before .before .before in
-    reads (rw (e .before .glyph .ensures, d .before .glyph2 .ensures)) (and-then (e .byte .ensures) (d .byte2 .ensures))
+    reads (rw (e .before .glyph .ensures, d .before .glyph2 .ensures))
+    (and-then (e .byte .ensures) (d .byte2 .ensures))
 
 pub hex-spec : {M : Type 1} → statement M
 hex-spec =

@@ -26,8 +26,12 @@ loop-again : tie.Need-loop-again Inv-loop μ-loop
 loop-again c =
     let d = c .before .before .before .before .before in
     let e = d .before .loop .inv in
-    let a = d .before .before .before .before .before .args in
-    (omega arith, e .1, next (hex-next (a .n) (a .list .now) (d .before .loop .i) (omega arith)) (c .before .before .hex .ensures) (e .2))
+    let a = d .before .before .before .before .before .args in (
+      omega arith,
+      e .1,
+      next (hex-next (a .n) (a .list .now) (d .before .loop .i) (omega arith))
+          (c .before .before .hex .ensures) (e .2),
+    )
 
 returns : tie.Need-returns Inv-loop μ-loop
 returns c =
@@ -37,5 +41,6 @@ returns c =
 pub hex-list-spec : {M : Type 1} → statement M
 hex-list-spec =
     tie.close
-    (tie.spec Inv-loop μ-loop (λ c κs. search needs) loop-holds (λ c. search needs) (λ c κs. search needs) (λ c. search needs)
+    (tie.spec Inv-loop μ-loop (λ c κs. search needs) loop-holds (λ c. search needs) (λ c κs. search needs)
+    (λ c. search needs)
     (λ c. search needs) loop-again (λ c. search needs) returns)

@@ -20,7 +20,8 @@ abbrev μ-loop : tie.MeasureT-loop
 μ-loop buf₀ at a b c n stop to₀ i₀ buf to i = stop - i
 
 loop-holds : tie.Need-loop-holds Inv-loop μ-loop
-loop-holds c = (omega arith, rw (c .before .lesser2 .ensures, c .before .before .lesser .ensures) at (c .lesser3 .ensures), start)
+loop-holds c =
+    (omega arith, rw (c .before .lesser2 .ensures, c .before .before .lesser .ensures) at (c .lesser3 .ensures), start)
 
 loop-less : tie.Need-loop-less Inv-loop μ-loop
 loop-less c = omega (arith, c .before .before .before .before .before .before .before .loop-test .taken)
@@ -29,16 +30,23 @@ loop-again : tie.Need-loop-again Inv-loop μ-loop
 loop-again c =
     let d = c .before .before .before .before .before .before .before in
     let e = d .before .loop .inv in
-    let a = d .before .before .before .before .before .before .before .before .before .args in
-    (omega arith, e .1, next (three-next (a .n) (a .a .now) (a .b .now) (a .c .now) (d .before .loop .i) (omega arith)) (c .before .before .triple .ensures) (e .2))
+    let a = d .before .before .before .before .before .before .before .before .before .args in (
+      omega arith,
+      e .1,
+      next (three-next (a .n) (a .a .now) (a .b .now) (a .c .now) (d .before .loop .i) (omega arith))
+          (c .before .before .triple .ensures) (e .2),
+    )
 
 returns : tie.Need-returns Inv-loop μ-loop
 returns c =
     let a = c .before .before .before .before .before .before .before .before .before .args in
-    done (three-end (a .n) (a .a .now) (a .b .now) (a .c .now) (c .before .loop .i) (omega arith)) (c .before .loop .inv .2)
+    done (three-end (a .n) (a .a .now) (a .b .now) (a .c .now) (c .before .loop .i) (omega arith))
+    (c .before .loop .inv .2)
 
 pub list-entries-spec : {M : Type 1} → statement M
 list-entries-spec =
     tie.close
-    (tie.spec Inv-loop μ-loop (λ c κs. search needs) (λ c κs. search needs) (λ c κs. search needs) loop-holds (λ c. search needs) (λ c. search needs) (λ c. search needs) (λ c. search needs) (λ c. search needs) (λ c. search needs) (λ c κs. search needs) (λ c. search needs)
+    (tie.spec Inv-loop μ-loop (λ c κs. search needs) (λ c κs. search needs) (λ c κs. search needs) loop-holds
+    (λ c. search needs) (λ c. search needs) (λ c. search needs) (λ c. search needs) (λ c. search needs)
+    (λ c. search needs) (λ c κs. search needs) (λ c. search needs)
     loop-less loop-again (λ c. search needs) returns)

@@ -26,16 +26,22 @@ loop-again : tie.Need-loop-again Inv-loop μ-loop
 loop-again c =
     let d = c .before .before .before .before .before .before in
     let e = d .before .loop .inv in
-    let a = d .before .before .before .before .before .before .before .args in
-    (omega arith, e .1, next (two-next (a .n) (a .numbers .now) (a .times .now) (d .before .loop .i) (omega arith)) (c .before .before .pair .ensures) (e .2))
+    let a = d .before .before .before .before .before .before .before .args in (
+      omega arith,
+      e .1,
+      next (two-next (a .n) (a .numbers .now) (a .times .now) (d .before .loop .i) (omega arith))
+          (c .before .before .pair .ensures) (e .2),
+    )
 
 returns : tie.Need-returns Inv-loop μ-loop
 returns c =
     let a = c .before .before .before .before .before .before .before .args in
-    done (two-end (a .n) (a .numbers .now) (a .times .now) (c .before .loop .i) (omega arith)) (c .before .loop .inv .2)
+    done (two-end (a .n) (a .numbers .now) (a .times .now) (c .before .loop .i) (omega arith))
+    (c .before .loop .inv .2)
 
 pub list-pairs-spec : {M : Type 1} → statement M
 list-pairs-spec =
     tie.close
-    (tie.spec Inv-loop μ-loop (λ c κs. search needs) (λ c κs. search needs) loop-holds (λ c. search needs) (λ c. search needs) (λ c. search needs) (λ c. search needs) (λ c κs. search needs) (λ c. search needs)
+    (tie.spec Inv-loop μ-loop (λ c κs. search needs) (λ c κs. search needs) loop-holds (λ c. search needs)
+    (λ c. search needs) (λ c. search needs) (λ c. search needs) (λ c κs. search needs) (λ c. search needs)
     (λ c. search needs) loop-again (λ c. search needs) returns)

@@ -21,8 +21,11 @@ loop-holds c = (omega arith, start)
 
 loop-again : tie.Need-loop-again Inv-loop μ-loop
 loop-again c =
-    let d = c .before .before .before .before .before in
-    (omega arith, next (drop-next _ _ (d .loop-test .taken)) (c .before .before .byte .ensures) (d .before .loop .inv .1))
+    let d = c .before .before .before .before .before in (
+      omega arith,
+      next (drop-next _ _ (d .loop-test .taken)) (c .before .before .byte .ensures)
+          (d .before .loop .inv .1),
+    )
 
 returns : tie.Need-returns Inv-loop μ-loop
 returns c = done (drop-all _ _ (c .loop-test .left)) (c .before .loop .inv .1)
