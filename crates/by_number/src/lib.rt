@@ -91,8 +91,8 @@ pub fn advance(s: &[u8], k: usize, t: u8, c: Cursor, budget: usize, out: &mut [u
 fn unserved(v: &[u8]) -> Refusal
     ensures { λ x. ⌜ x ≡ notServed (now (v .entry)) ⌝ }
 {
-    let h = xr::header_data(v);
-    Refusal::OtherType(xr::block_type(h) as usize)
+    let t = xr::block_type(xr::header_data(v));
+    Refusal::OtherType(t as usize)
 }
 
 // The fields of a block's view, asked by a number: 10, 7, 8.

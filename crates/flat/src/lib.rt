@@ -211,15 +211,15 @@ pub fn kind_number(c: Chunk) -> Flat
             first: 0,
             second: 0,
         },
-        Chunk::Skip(n) => Flat {
+        Chunk::Skip(m) => Flat {
             code: 0,
             first: 1,
-            second: n as u64,
+            second: m as u64,
         },
-        Chunk::Run(n) => Flat {
+        Chunk::Run(m) => Flat {
             code: 0,
             first: 2,
-            second: n as u64,
+            second: m as u64,
         },
         Chunk::Vector(v) => Flat {
             code: 0,
