@@ -22,7 +22,6 @@ pub(crate) fn listed<T: Clone + Default>(
     ask: impl Fn(&mut [T]) -> Result<usize, Refusal>,
 ) -> Result<Vec<T>, Refusal> {
     let mut list = room(needed(ask(&mut []))?)?;
-    let n = ask(&mut list)?;
-    list.truncate(n);
+    ask(&mut list)?;
     Ok(list)
 }

@@ -44,6 +44,73 @@ fn the_sample_in_both_readings() {
     }
 }
 
+/// The numbers of a packet of one loss block, in a reading.
+fn numbers(reading: Reading, begin: u16, end: u16, thinning: u8, words: &[u16]) -> Vec<u16> {
+    let loss = LossRle::builder().begin(begin).end(end).thinning(thinning).add_words(words);
+    let packet = Xr::builder().add_block(loss).plain().unwrap();
+    let loss = Xr::parse_as(reading, &packet).unwrap().block(0).unwrap().parse_into::<LossRle>().unwrap();
+    assert_eq!(loss.sequence_iter().collect::<Vec<_>>(), loss.sequences().unwrap());
+    loss.sequences().unwrap()
+}
+
+/// Examples 3 to 12 of the project's paper, in both readings.
+#[test]
+fn the_worked_examples() {
+    for reading in [S, C] {
+        assert_eq!(numbers(reading, 65_534, 2, 0, &[16_388, 0]), [65_534, 65_535, 0, 1]);
+    }
+    assert_eq!(numbers(S, 10, 14, 0, &[16_386, 16_386]), [10, 11, 12, 13]);
+    assert_eq!(numbers(C, 10, 14, 0, &[16_386, 16_386]), [10, 11]);
+    assert_eq!(numbers(S, 10, 12, 0, &[16_386, 16_387, 16_385, 0]), [10, 11]);
+    assert_eq!(numbers(C, 10, 12, 0, &[16_386, 16_387, 16_385, 0]), [10, 11, 12, 13, 14, 15]);
+    assert_eq!(numbers(S, 0, 0, 15, &[16_387, 0]), [0, 32_768]);
+    assert_eq!(numbers(C, 0, 0, 15, &[16_387, 0]), [0, 32_768, 0]);
+
+    // two times, and a clock behind them, which the crate takes for times
+    let pairs = |reading, end| {
+        let times = PacketReceiptTimes::builder().begin(5).end(end).add_time(ReceiptTime(1)).add_time(ReceiptTime(2));
+        let clock = ReceiverReferenceTime::builder().ntp_timestamp(LongTime(0x0102_0304_0506_0708));
+        let packet = Xr::builder().add_block(times).add_block(clock).plain().unwrap();
+        let times = Xr::parse_as(reading, &packet).unwrap().block(0).unwrap().parse_into::<PacketReceiptTimes>();
+        times.unwrap().sequence_iter().map(|(n, t)| (n, t.0)).collect::<Vec<_>>()
+    };
+    assert_eq!(pairs(S, 9), [(5, 1), (6, 2)]);
+    assert_eq!(pairs(C, 9), [(5, 1), (6, 2), (7, 67_108_866), (8, 0x0102_0304)]);
+    assert_eq!((pairs(S, 7), pairs(C, 7)), (vec![(5, 1), (6, 2)], vec![(5, 1), (6, 2)]));
+
+    // two entries, the last block
+    let entry = |n| {
+        let entry = DelaySinceLastReceiverReportBlock::builder().ssrc(n).last_receiver_report(ShortTime(n + 1));
+        entry.delay_since_last_receiver_report_timestamp(ShortTime(n + 2))
+    };
+    let two = DelaySinceLastReceiverReport::builder().add_block(entry(10)).add_block(entry(20));
+    let packet = Xr::builder().add_block(two).plain().unwrap();
+    let block = |reading| Xr::parse_as(reading, &packet).unwrap().block(0).unwrap();
+    let found: Vec<_> =
+        block(S).parse_into::<DelaySinceLastReceiverReport>().unwrap().block_iter().map(|e| e.ssrc()).collect();
+    assert_eq!(found, [10, 20]);
+    assert_eq!(refused(block(C).parse_into::<DelaySinceLastReceiverReport>()), (7, 40, 28));
+
+    // one entry, and a clock behind it, which the crate takes for an entry
+    let one = DelaySinceLastReceiverReport::builder().add_block(entry(10));
+    let builder = Xr::builder().add_block(one).add_block(ReceiverReferenceTime::builder());
+    assert_eq!(builder.careful(), Err(Refusal::Misleads { index: 0 }));
+    let packet = builder.plain().unwrap();
+    let count = |reading| {
+        let block = Xr::parse_as(reading, &packet).unwrap().block(0).unwrap();
+        assert_eq!(block.data().len(), if reading == S { 16 } else { 28 });
+        block.parse_into::<DelaySinceLastReceiverReport>().unwrap().block_iter().len()
+    };
+    assert_eq!((count(S), count(C)), (1, 2));
+
+    let loss = LossRle::builder().begin(10).end(14).add_words(&[16_386, 16_386]);
+    let packet = Xr::builder().add_block(loss).careful().unwrap();
+    assert_eq!(Xr::parse(&packet).unwrap().block(0).unwrap().length(), 20);
+    let least = Xr::builder().careful().unwrap();
+    assert_eq!(Xr::parse(&least).unwrap().block_count(), 0);
+    assert_eq!(refused(Xr::parse_as(C, &least)), (1, 12, 8));
+}
+
 #[test]
 fn every_refusal_has_its_number_and_values() {
     let all = [
@@ -273,6 +340,7 @@ fn two_thousand_million_numbers() {
     assert_eq!(loss.sequences_into(&mut out), Err(Refusal::NoRoom { needed: 2_147_172_363, lent: 2 }));
     assert_eq!(out, [7; 2]);
     let loss = Xr::parse(&packet).unwrap().block(0).unwrap().parse_into::<LossRle>().unwrap();
+    assert_eq!(loss.sequence_count(), 2);
     assert_eq!(loss.sequence_iter().collect::<Vec<_>>(), [0, 32_768]);
     assert_eq!(builder.careful().unwrap_err(), Refusal::TooMany { found: 262_148, limit: 262_144 });
 }
