@@ -38,5 +38,10 @@ fn main() {
     // for the tests that compare with the original alone: the folder that holds librtcp_types.rlib
     if let Some(original) = env::var_os("GIUNCHEMIS_ORIGINAL") {
         println!("cargo:rustc-link-search=crate={}", PathBuf::from(original).display());
+    } else if env::var_os("CARGO_FEATURE_ORIGINAL").is_some() {
+        fail(
+            "the tests of the feature `original` want the folder of librtcp_types.rlib in GIUNCHEMIS_ORIGINAL: \
+             tools/foreign builds it and runs them.",
+        );
     }
 }

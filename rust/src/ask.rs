@@ -97,44 +97,16 @@ pub fn time(reading: Reading, packet: &[u8], k: usize) -> Result<LongTime, Refus
 }
 
 /// The sequence numbers that block `k` lists, asked as type 1 or 2, and how many: 1 to 6, 9, 10, 7, 11.
-pub fn numbers(
-    reading: Reading,
-    packet: &[u8],
-    k: usize,
-    block_type: u8,
-    out: &mut [u16],
-) -> Result<usize, Refusal> {
+pub fn numbers(reading: Reading, packet: &[u8], k: usize, block_type: u8, out: &mut [u16]) -> Result<usize, Refusal> {
     count_of(unsafe {
-        sys::xr_numbers(
-            reading.number(),
-            packet.as_ptr(),
-            packet.len(),
-            k,
-            block_type,
-            out.as_mut_ptr(),
-            out.len(),
-        )
+        sys::xr_numbers(reading.number(), packet.as_ptr(), packet.len(), k, block_type, out.as_mut_ptr(), out.len())
     })
 }
 
 /// The chunk words of block `k`, asked as type 1 or 2, and how many: 1 to 6, 9, 10, 7, 11.
-pub fn words(
-    reading: Reading,
-    packet: &[u8],
-    k: usize,
-    block_type: u8,
-    out: &mut [u16],
-) -> Result<usize, Refusal> {
+pub fn words(reading: Reading, packet: &[u8], k: usize, block_type: u8, out: &mut [u16]) -> Result<usize, Refusal> {
     count_of(unsafe {
-        sys::xr_words(
-            reading.number(),
-            packet.as_ptr(),
-            packet.len(),
-            k,
-            block_type,
-            out.as_mut_ptr(),
-            out.len(),
-        )
+        sys::xr_words(reading.number(), packet.as_ptr(), packet.len(), k, block_type, out.as_mut_ptr(), out.len())
     })
 }
 

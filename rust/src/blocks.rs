@@ -21,7 +21,15 @@ pub struct SequenceIter<'a> {
 
 #[derive(Clone, Debug)]
 enum Source<'a> {
-    Steps { block_type: u8, view: &'a [u8], cursor: Cursor, ended: bool, buffer: [u16; STRETCH], at: usize, stop: usize },
+    Steps {
+        block_type: u8,
+        view: &'a [u8],
+        cursor: Cursor,
+        ended: bool,
+        buffer: [u16; STRETCH],
+        at: usize,
+        stop: usize,
+    },
     List(std::vec::IntoIter<u16>),
 }
 

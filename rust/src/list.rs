@@ -18,9 +18,7 @@ pub(crate) fn room<T: Clone + Default>(needed: usize) -> Result<Vec<T>, Refusal>
 }
 
 /// The items of a listing call, as a `Vec`: one call for their number, one that fills it.
-pub(crate) fn listed<T: Clone + Default>(
-    ask: impl Fn(&mut [T]) -> Result<usize, Refusal>,
-) -> Result<Vec<T>, Refusal> {
+pub(crate) fn listed<T: Clone + Default>(ask: impl Fn(&mut [T]) -> Result<usize, Refusal>) -> Result<Vec<T>, Refusal> {
     let mut list = room(needed(ask(&mut []))?)?;
     ask(&mut list)?;
     Ok(list)

@@ -200,7 +200,9 @@ impl fmt::Display for Refusal {
             }
             Refusal::NoFields { left } => write!(f, "{} bytes are left, and the fields need 12", left),
             Refusal::NoPlace => write!(f, "the cursor names no place of the block"),
-            Refusal::NoRoom { needed, lent } => write!(f, "{} items are needed, and room for {} was lent", needed, lent),
+            Refusal::NoRoom { needed, lent } => {
+                write!(f, "{} items are needed, and room for {} was lent", needed, lent)
+            }
             Refusal::ValueTooLarge { value } => write!(f, "no chunk word of its kind has the value {}", value),
             Refusal::BadRecord { index } => write!(f, "record {} of the job list is malformed", index),
             Refusal::TooMany { found, limit } => write!(f, "there are {}, and {} are allowed", found, limit),

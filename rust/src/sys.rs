@@ -126,14 +126,8 @@ extern "C" {
         out: *mut u16,
         out_len: usize,
     ) -> Flat;
-    pub(crate) fn xr_words_view(
-        r: u8,
-        t: u8,
-        view: *const u8,
-        view_len: usize,
-        out: *mut u16,
-        out_len: usize,
-    ) -> Flat;
+    pub(crate) fn xr_words_view(r: u8, t: u8, view: *const u8, view_len: usize, out: *mut u16, out_len: usize)
+        -> Flat;
     pub(crate) fn xr_pairs_view(
         r: u8,
         view: *const u8,

@@ -44,9 +44,7 @@ fn add(builder: XrBuilder, asked: &Asked) -> XrBuilder {
             let block = PacketReceiptTimes::builder().ssrc(*ssrc).begin(*begin).end(*end).thinning(*thinning);
             builder.add_block(times.iter().fold(block, |b, t| b.add_time(ReceiptTime(*t))))
         }
-        Asked::Clock(time) => {
-            builder.add_block(ReceiverReferenceTime::builder().ntp_timestamp(LongTime(*time)))
-        }
+        Asked::Clock(time) => builder.add_block(ReceiverReferenceTime::builder().ntp_timestamp(LongTime(*time))),
         Asked::Echoes(entries) => {
             let block = DelaySinceLastReceiverReport::builder();
             builder.add_block(entries.iter().fold(block, |b, (ssrc, last, delay)| {
@@ -118,7 +116,11 @@ fn what_was_asked_is_written() {
             let write = |out: &mut [u8]| if careful { builder.write_careful(out) } else { builder.write_plain(out) };
             support::holds_for_rooms("writing", &Ok(packet.clone()), 7, write);
             support::holds_for_rooms("writing a list", &Ok(packet.clone()), 7, |out| {
-                if careful { ask::write_careful(&list, out) } else { ask::write_plain(&list, out) }
+                if careful {
+                    ask::write_careful(&list, out)
+                } else {
+                    ask::write_plain(&list, out)
+                }
             });
             if !careful {
                 assert_eq!(builder.calculate_size(), Ok(packet.len()));

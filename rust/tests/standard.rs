@@ -1,9 +1,9 @@
 //! The standard reading, on thousands of seeded packets, against the second implementation: every question, by index
 //! and by view, in rooms that are too small, enough and too large; and the records built on them.
-#[path = "support/mod.rs"]
-mod support;
 #[path = "support/second.rs"]
 mod second;
+#[path = "support/mod.rs"]
+mod support;
 
 use giunchemis::*;
 use support::{holds_for_rooms, numbers_of, packet, Random};
@@ -58,9 +58,7 @@ type Block<'a> = Result<&'a [u8], second::No>;
 /// The questions that take a type by a number, and the others once.
 fn by_type(packet: &[u8], k: usize, block: Block, t: u8, random: &mut Random) {
     let fields = block.and_then(|b| second::fields(b, t));
-    let laid = |f: Result<Fields, Refusal>| {
-        f.map(|f| (f.media_ssrc, f.begin, f.end, f.thinning)).map_err(numbers_of)
-    };
+    let laid = |f: Result<Fields, Refusal>| f.map(|f| (f.media_ssrc, f.begin, f.end, f.thinning)).map_err(numbers_of);
     assert_eq!(laid(ask::fields(S, packet, k, t)), fields);
     let numbers = block.and_then(|b| second::numbers(b, t));
     holds_for_rooms("numbers", &numbers, 0xbeef, |out| ask::numbers(S, packet, k, t, out));
@@ -80,23 +78,17 @@ fn by_type(packet: &[u8], k: usize, block: Block, t: u8, random: &mut Random) {
     }
 }
 
-fn cursor(
-    packet: &[u8],
-    k: usize,
-    block: Block,
-    t: u8,
-    from: (usize, usize, usize),
-    budget: usize,
-    room: usize,
-) {
+fn cursor(packet: &[u8], k: usize, block: Block, t: u8, from: (usize, usize, usize), budget: usize, room: usize) {
     let expected = block.and_then(|b| second::cursor(b, t, from, budget, room));
     let start = Cursor { word: from.0, place: from.1, position: from.2 };
     let check = |call: &dyn Fn(&mut [u16]) -> Result<Stretch, Refusal>| {
         let mut lent = vec![0xbeef; room];
         let answer = call(&mut lent).map_err(numbers_of);
         let listed = expected.as_ref().map_or(&[][..], |(_, _, listed)| listed);
-        assert_eq!(answer.map(|s| ((s.next.word, s.next.place, s.next.position), s.taken, s.listed)),
-            expected.as_ref().map(|(next, taken, l)| (*next, *taken, l.len())).map_err(|no| *no));
+        assert_eq!(
+            answer.map(|s| ((s.next.word, s.next.place, s.next.position), s.taken, s.listed)),
+            expected.as_ref().map(|(next, taken, l)| (*next, *taken, l.len())).map_err(|no| *no)
+        );
         assert_eq!(&lent[..listed.len()], listed);
         assert!(lent[listed.len()..].iter().all(|x| *x == 0xbeef));
     };
@@ -187,6 +179,17 @@ fn records(packet: &[u8], blocks: &Result<Vec<(usize, usize)>, second::No>) {
     }
 }
 
+/// What every record answers of its block.
+macro_rules! of_its_block {
+    ($record:expr, $block:expr) => {
+        assert_eq!($record.block(), *$block);
+        assert_eq!($record.header_data(), $block.header_data());
+        assert_eq!($record.block_type(), $block.block_type());
+        assert_eq!($record.type_specific_byte(), $block.type_specific_byte());
+        assert_eq!($record.length(), $block.length());
+    };
+}
+
 fn record(block: &XrBlock, bytes: &[u8]) {
     macro_rules! run_lengths {
         ($type:ident, $t:expr) => {
@@ -195,8 +198,7 @@ fn record(block: &XrBlock, bytes: &[u8]) {
                 Ok(r) => {
                     let fields = second::fields(bytes, $t).unwrap();
                     assert_eq!((r.media_ssrc(), r.begin(), r.end(), r.thinning()), fields);
-                    assert_eq!((r.block(), r.length(), r.block_type()), (*block, bytes.len(), $t));
-                    assert_eq!((r.header_data(), r.type_specific_byte()), (block.header_data(), bytes[1]));
+                    of_its_block!(r, block);
                     let numbers = second::numbers(bytes, $t).unwrap();
                     assert_eq!(r.sequence_iter().collect::<Vec<_>>(), numbers);
                     assert_eq!((r.sequences().unwrap(), r.sequence_count()), (numbers.clone(), numbers.len()));
@@ -218,14 +220,17 @@ fn record(block: &XrBlock, bytes: &[u8]) {
         Err(refusal) => assert_eq!(numbers_of(refusal), second::fields(bytes, 3).unwrap_err()),
         Ok(r) => {
             assert_eq!((r.media_ssrc(), r.begin(), r.end(), r.thinning()), second::fields(bytes, 3).unwrap());
-            assert_eq!((r.block(), r.length(), r.block_type()), (*block, bytes.len(), 3));
+            of_its_block!(r, block);
             let pairs: Vec<_> = r.sequence_iter().map(|(n, t)| (n, t.0)).collect();
             assert_eq!(pairs, second::pairs(bytes).unwrap());
         }
     }
     match block.parse_into::<ReceiverReferenceTime>() {
         Err(refusal) => assert_eq!(numbers_of(refusal), second::time(bytes).unwrap_err()),
-        Ok(r) => assert_eq!((r.ntp_timestamp().0, r.block_type()), (second::time(bytes).unwrap(), 4)),
+        Ok(r) => {
+            of_its_block!(r, block);
+            assert_eq!(r.ntp_timestamp().0, second::time(bytes).unwrap());
+        }
     }
     match block.parse_into::<DelaySinceLastReceiverReport>() {
         Err(refusal) => assert_eq!(numbers_of(refusal), second::entries(bytes).unwrap_err()),
@@ -234,7 +239,7 @@ fn record(block: &XrBlock, bytes: &[u8]) {
                 (e.ssrc(), e.last_receiver_report().0, e.delay_since_last_receiver_report_timestamp().0)
             };
             assert_eq!(r.block_iter().map(of).collect::<Vec<_>>(), second::entries(bytes).unwrap());
-            assert_eq!((r.block_type(), r.length()), (5, bytes.len()));
+            of_its_block!(r, block);
         }
     }
 }
