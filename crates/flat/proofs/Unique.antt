@@ -11,6 +11,7 @@ use Rattle.flat.proofs.located.Reads as located
 use Rattle.flat.proofs.fields.Reads as fields
 use Rattle.flat.proofs.time.Reads as time
 use Rattle.flat.proofs.stretch.Reads as stretch
+use Rattle.flat.proofs.kind_number.Reads as kind-number
 
 pub reading-unique : (κs : Lfts 0) → Fixes (reading.Post κs) (λ r s. r)
 reading-unique κs a r₁ r₂ s₁ s₂ p q = p ∙ sym q
@@ -35,3 +36,6 @@ time-unique κs a r₁ r₂ s₁ s₂ p q = p ∙ sym q
 
 pub stretch-unique : (κs : Lfts 0) → Fixes (stretch.Post κs) (λ r s. r)
 stretch-unique κs a r₁ r₂ s₁ s₂ p q = p ∙ sym q
+
+pub kind-number-unique : (κs : Lfts 0) → Fixes (kind-number.Post κs) (λ r s. r)
+kind-number-unique κs a r₁ r₂ s₁ s₂ p q = p ∙ sym q

@@ -5,6 +5,8 @@
 --                    refusal and its two values
 use Prim.Native.Nat.{ℕ}
 use mathlib.Core.Bool.{cond}
+use mathlib.Core.List.{List}
+use lib.ListN.{length}
 use lib.Dec.{eqb}
 use Rattle.def_refusals.specs.declared.Refusal.{Refusal}
 use Rattle.def_refusals.specs.declared.Numbered.{Numbered}
@@ -20,6 +22,8 @@ use Rattle.def_wire.specs.declared.FieldsOr.{FieldsOr}
 use Rattle.def_wire.specs.declared.FieldsOr.the-variants.{Shown, NoneOf}
 use Rattle.def_wire.specs.declared.TimeOr.{TimeOr}
 use Rattle.def_wire.specs.declared.TimeOr.the-variants.{Time, NoTime}
+use Rattle.def_wire.specs.Packet.{ssrcOf, nextPlace, viewFrom}
+use Rattle.def_wire.specs.Block.{typeOf, specificOf, blockLength}
 use Rattle.def_standard.specs.declared.Chunk.{Chunk}
 use Rattle.def_standard.specs.declared.Chunk.the-variants.{Null, Skip, Run, Vector}
 use Rattle.def_cursor.specs.declared.Stretch.{Stretch}
@@ -29,6 +33,7 @@ use Rattle.def_cursor.specs.Cursor.{start}
 use Rattle.flat.specs.declared.Flat.{Flat}
 use Rattle.flat.specs.declared.FlatStretch.{FlatStretch}
 use Rattle.flat.specs.declared.FlatFields.{FlatFields}
+use Rattle.flat.specs.declared.FlatBlock.{FlatBlock}
 
 -- 0 asks for the standard reading, anything else for the crate's
 unfoldable pub readingOf : ℕ → Reading
@@ -103,3 +108,26 @@ flatStretch (Stuck x) = stretchRow (flatRefusal x) noStretch
 -- a chunk word's kind by a number: 0 Null, 1 a run of zeros, 2 a run of ones, anything else a vector
 unfoldable pub chunkAsked : ℕ → ℕ → Chunk
 chunkAsked k value = cond (eqb k 0) Null (cond (eqb k 1) (Skip value) (cond (eqb k 2) (Run value) (Vector value)))
+
+-- the other way: a kind's number and its value
+unfoldable pub flatChunk : Chunk → Flat
+flatChunk Null = found 0 0
+flatChunk (Skip n) = found 1 n
+flatChunk (Run n) = found 2 n
+flatChunk (Vector v) = found 3 v
+
+-- a packet's count of blocks with its sender's SSRC
+unfoldable pub flatParsed : List ℕ → Answer → Flat
+flatParsed s (Done n) = found n (ssrcOf s)
+flatParsed s (Refused x) = flatRefusal x
+
+-- what stands at a place of a packet: where the next block begins, how many bytes the block's view has, and what its
+-- header bytes say. Any place serves: past the end the view is empty, its bytes count as 0, and the place stays
+unfoldable pub flatBlock : Reading → List ℕ → ℕ → FlatBlock
+flatBlock r s at = record {
+  next = nextPlace s at;
+  size = length (viewFrom r s at);
+  length = blockLength (viewFrom r s at);
+  kind = typeOf (viewFrom r s at);
+  specific = specificOf (viewFrom r s at);
+}

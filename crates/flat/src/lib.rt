@@ -1,7 +1,7 @@
 // The library's answers as numbers, for callers in other languages: each a flat copy of an answer.
 ghost use mathlib.Core.Path.{_≡_};
 ghost use Rattle.flat.specs.Flat.{readingOf, chunkAsked, flatRefusal, flatOf, flatLocated, flatFields};
-ghost use Rattle.flat.specs.Flat.{flatTime, flatStretch};
+ghost use Rattle.flat.specs.Flat.{flatTime, flatStretch, flatChunk};
 use def_cursor::Advanced;
 use def_refusals::Answer;
 use def_refusals::Refusal;
@@ -44,6 +44,17 @@ pub struct FlatStretch {
     pub position: u64,
     pub taken: u64,
     pub listed: u64,
+}
+
+// What stands at a place of a packet: where the next block begins, how many bytes the block's view has, and what its
+// header bytes say.
+#[repr(C)]
+pub struct FlatBlock {
+    pub next: u64,
+    pub size: u64,
+    pub length: u32,
+    pub kind: u8,
+    pub specific: u8,
 }
 
 // The reading that a number asks for.
@@ -187,5 +198,33 @@ pub fn stretch(a: Advanced) -> FlatStretch
                 listed: 0,
             }
         }
+    }
+}
+
+// A chunk word's kind and its value.
+pub fn kind_number(c: Chunk) -> Flat
+    ensures { λ f. ⌜ f ≡ flatChunk c ⌝ }
+{
+    match c {
+        Chunk::Null => Flat {
+            code: 0,
+            first: 0,
+            second: 0,
+        },
+        Chunk::Skip(m) => Flat {
+            code: 0,
+            first: 1,
+            second: m as u64,
+        },
+        Chunk::Run(m) => Flat {
+            code: 0,
+            first: 2,
+            second: m as u64,
+        },
+        Chunk::Vector(v) => Flat {
+            code: 0,
+            first: 3,
+            second: v as u64,
+        },
     }
 }

@@ -1,2 +1,3 @@
--- Unique: no second answer.
+-- ParsedLaws (a parsed packet as numbers), Unique (no second answer).
+pub mod ParsedLaws
 pub mod Unique

@@ -17,6 +17,15 @@ use Rattle.xport.proofs.xr_words_from_marks.Reads as xr-words-from-mark
 use Rattle.xport.proofs.xr_write_plain.Reads as xr-write-plain
 use Rattle.xport.proofs.xr_write_careful.Reads as xr-write-careful
 use Rattle.xport.proofs.xr_cursor.Reads as xr-cursor
+use Rattle.xport.proofs.xr_parse.Reads as xr-parse
+use Rattle.xport.proofs.xr_block_at.Reads as xr-block-at
+use Rattle.xport.proofs.xr_fields_view.Reads as xr-fields-view
+use Rattle.xport.proofs.xr_time_view.Reads as xr-time-view
+use Rattle.xport.proofs.xr_words_view.Reads as xr-words-view
+use Rattle.xport.proofs.xr_pairs_view.Reads as xr-pairs-view
+use Rattle.xport.proofs.xr_entries_view.Reads as xr-entries-view
+use Rattle.xport.proofs.xr_cursor_view.Reads as xr-cursor-view
+use Rattle.xport.proofs.xr_chunk_of.Reads as xr-chunk-of
 
 pub xr-count-unique : (κs : Lfts 1) → Fixes (xr-count.Post κs) (λ r s. r)
 xr-count-unique κs a r₁ r₂ s₁ s₂ p q = p ∙ sym q
@@ -98,3 +107,51 @@ xr-cursor-unique κs a r₁ r₂ s₁ s₂ p q = p .answer ∙ sym (q .answer)
 
 pub xr-cursor-unique-out : (κs : Lfts 2) → Fixes (xr-cursor.Post κs) (λ r s. s .1 .1 .1 .1 .1 .1 .1 .0 .now)
 xr-cursor-unique-out κs a r₁ r₂ s₁ s₂ p q = p .filled ∙ sym (q .filled)
+
+pub xr-parse-unique : (κs : Lfts 1) → Fixes (xr-parse.Post κs) (λ r s. r)
+xr-parse-unique κs a r₁ r₂ s₁ s₂ p q = p ∙ sym q
+
+pub xr-block-at-unique : (κs : Lfts 1) → Fixes (xr-block-at.Post κs) (λ r s. r)
+xr-block-at-unique κs a r₁ r₂ s₁ s₂ p q = p ∙ sym q
+
+pub xr-fields-view-unique : (κs : Lfts 1) → Fixes (xr-fields-view.Post κs) (λ r s. r)
+xr-fields-view-unique κs a r₁ r₂ s₁ s₂ p q = p ∙ sym q
+
+pub xr-time-view-unique : (κs : Lfts 1) → Fixes (xr-time-view.Post κs) (λ r s. r)
+xr-time-view-unique κs a r₁ r₂ s₁ s₂ p q = p ∙ sym q
+
+pub xr-words-view-unique : (κs : Lfts 2) → Fixes (xr-words-view.Post κs) (λ r s. r)
+xr-words-view-unique κs a r₁ r₂ s₁ s₂ p q = p .answer ∙ sym (q .answer)
+
+pub xr-words-view-unique-out : (κs : Lfts 2) → Fixes (xr-words-view.Post κs) (λ r s. s .1 .1 .1 .0 .now)
+xr-words-view-unique-out κs a r₁ r₂ s₁ s₂ p q = p .filled ∙ sym (q .filled)
+
+pub xr-pairs-view-unique : (κs : Lfts 3) → Fixes (xr-pairs-view.Post κs) (λ r s. r)
+xr-pairs-view-unique κs a r₁ r₂ s₁ s₂ p q = p .answer ∙ sym (q .answer)
+
+pub xr-pairs-view-unique-numbers : (κs : Lfts 3) → Fixes (xr-pairs-view.Post κs) (λ r s. s .1 .1 .0 .now)
+xr-pairs-view-unique-numbers κs a r₁ r₂ s₁ s₂ p q = p .numbers ∙ sym (q .numbers)
+
+pub xr-pairs-view-unique-times : (κs : Lfts 3) → Fixes (xr-pairs-view.Post κs) (λ r s. s .1 .1 .1 .0 .now)
+xr-pairs-view-unique-times κs a r₁ r₂ s₁ s₂ p q = p .times ∙ sym (q .times)
+
+pub xr-entries-view-unique : (κs : Lfts 4) → Fixes (xr-entries-view.Post κs) (λ r s. r)
+xr-entries-view-unique κs a r₁ r₂ s₁ s₂ p q = p .answer ∙ sym (q .answer)
+
+pub xr-entries-view-unique-ssrcs : (κs : Lfts 4) → Fixes (xr-entries-view.Post κs) (λ r s. s .1 .1 .0 .now)
+xr-entries-view-unique-ssrcs κs a r₁ r₂ s₁ s₂ p q = p .ssrcs ∙ sym (q .ssrcs)
+
+pub xr-entries-view-unique-lasts : (κs : Lfts 4) → Fixes (xr-entries-view.Post κs) (λ r s. s .1 .1 .1 .0 .now)
+xr-entries-view-unique-lasts κs a r₁ r₂ s₁ s₂ p q = p .lasts ∙ sym (q .lasts)
+
+pub xr-entries-view-unique-delays : (κs : Lfts 4) → Fixes (xr-entries-view.Post κs) (λ r s. s .1 .1 .1 .1 .0 .now)
+xr-entries-view-unique-delays κs a r₁ r₂ s₁ s₂ p q = p .delays ∙ sym (q .delays)
+
+pub xr-cursor-view-unique : (κs : Lfts 2) → Fixes (xr-cursor-view.Post κs) (λ r s. r)
+xr-cursor-view-unique κs a r₁ r₂ s₁ s₂ p q = p .0 ∙ sym (q .0)
+
+pub xr-cursor-view-unique-out : (κs : Lfts 2) → Fixes (xr-cursor-view.Post κs) (λ r s. s .1 .1 .1 .1 .1 .1 .0 .now)
+xr-cursor-view-unique-out κs a r₁ r₂ s₁ s₂ p q = p .1 ∙ sym (q .1)
+
+pub xr-chunk-of-unique : (κs : Lfts 0) → Fixes (xr-chunk-of.Post κs) (λ r s. r)
+xr-chunk-of-unique κs a r₁ r₂ s₁ s₂ p q = p ∙ sym q

@@ -2,22 +2,32 @@
 // slices and answers numbers. A slice is a pointer and a length. A reading is a number: 0 the standard, anything else
 // the crate's. A packet's blocks are counted from 0.
 ghost use mathlib.Core.Path.{_≡_};
+ghost use lib.ListN.{length};
+ghost use Rattle.def_refusals.specs.Answers.{refused};
 ghost use Rattle.def_wire.specs.Packet.{countOf, locate};
-ghost use Rattle.def_standard.specs.Chunks.{wordBytes};
-ghost use Rattle.def_cursor.specs.Cursor.{cursor as here};
+ghost use Rattle.def_wire.specs.Block.{rleOf, rangedOf, fieldsOf, timeOf};
+ghost use Rattle.def_standard.specs.Chunks.{chunkOf, wordBytes};
+ghost use Rattle.def_cursor.specs.Cursor.{cursor as here, advanceBy, filledBy};
+ghost use Rattle.def_questions.specs.Questions.{wordsShown, pairsShown, entriesShown};
 ghost use Rattle.def_questions.specs.Packets.{timeAsked, pairsAsked, entriesAsked};
 ghost use Rattle.def_questions.specs.ByNumber.{fieldsBy, numbersBy, numbersViewBy, wordsBy};
+ghost use Rattle.def_questions.specs.ByNumber.{onRle, onRanged, notServed};
 ghost use Rattle.def_jobs.specs.Writing.{packetOf};
 ghost use Rattle.def_marks.specs.Marks.{marksAsked};
 ghost use Rattle.flat.specs.Flat.{readingOf, flatOf, flatLocated, flatFields, flatTime, chunkAsked};
+ghost use Rattle.flat.specs.Flat.{flatParsed, flatBlock, flatStretch, flatChunk};
 ghost use Rattle.flat.specs.Lists.{FlatListed, FlatPairs, FlatEntries, FlatStretched};
 use def_cursor::Cursor;
 use def_jobs::Layout;
 use def_refusals::Answer;
+use def_wire::FieldsOr;
 use def_wire::Located;
 use flat::Flat;
+use flat::FlatBlock;
 use flat::FlatFields;
 use flat::FlatStretch;
+use xr::Parsed;
+use xr::Xr;
 
 // How many blocks a packet has: 1 to 6.
 #[no_mangle]
@@ -177,4 +187,120 @@ pub extern "C" fn xr_cursor(
         position,
     };
     flat::stretch(by_number::advance(packet, k, t, c, budget, out))
+}
+
+// How many blocks a packet has, and its sender's SSRC: 1 to 6.
+#[no_mangle]
+pub extern "C" fn xr_parse(r: u8, packet: &[u8]) -> Flat
+    ensures { λ a. ⌜ a ≡ flatParsed (now (packet .entry)) (countOf (readingOf r) (now (packet .entry))) ⌝ }
+{
+    match Xr::parse(flat::reading(r), packet) {
+        Parsed::Packet(p) => Flat {
+            code: 0,
+            first: p.blocks as u64,
+            second: p.ssrc as u64,
+        },
+        Parsed::Unread(x) => flat::refusal(x),
+    }
+}
+
+// What stands at a place of a packet: where the next block begins, how many bytes the block's view has from there on,
+// and its header bytes. From 8 on, as often as xr_parse counts blocks, it comes to each block in turn, each at the cost
+// of one. Past the end the view is empty, its bytes count as 0, and the place stays.
+#[no_mangle]
+pub extern "C" fn xr_block_at(r: u8, packet: &[u8], at: usize) -> FlatBlock
+    ensures { λ a. ⌜ a ≡ flatBlock (readingOf r) (now (packet .entry)) at ⌝ }
+{
+    let next = reader::next_place(packet, at);
+    let view = reader::view_at(flat::reading(r), packet, at);
+    let h = xr::header_data(view);
+    FlatBlock {
+        next: next as u64,
+        size: view.len() as u64,
+        length: xr::block_length(h) as u32,
+        kind: xr::block_type(h),
+        specific: xr::type_specific_byte(h),
+    }
+}
+
+// The questions of a block's view, as xr_locate or xr_block_at says where it lies. The fields, asked as type t (1, 2 or
+// 3): 10, 7, 8.
+#[no_mangle]
+pub extern "C" fn xr_fields_view(r: u8, t: u8, view: &[u8]) -> FlatFields
+    ensures { λ a. ⌜ a ≡ flatFields (onRanged (rangedOf t) (λ g. fieldsOf (readingOf r) g (now (view .entry)))
+        (FieldsOr.NoneOf (notServed (now (view .entry))))) ⌝ }
+{
+    flat::fields(by_number::fields_view(flat::reading(r), t, view))
+}
+
+// The time, of type 4: 10, 7.
+#[no_mangle]
+pub extern "C" fn xr_time_view(r: u8, view: &[u8]) -> Flat
+    ensures { λ a. ⌜ a ≡ flatTime (timeOf (readingOf r) (now (view .entry))) ⌝ }
+{
+    flat::time(block::time(flat::reading(r), view))
+}
+
+// The chunk words, asked as type t (1 or 2): 10, 7, 11.
+#[no_mangle]
+pub extern "C" fn xr_words_view(r: u8, t: u8, view: &[u8], out: &mut [u16]) -> Flat
+    ensures { λ a. ⌜ FlatListed (onRle (rleOf t) (λ b. wordsShown (readingOf r) b (now (view .entry)))
+        (refused (notServed (now (view .entry))))) (now (out .entry)) a (now (out .exit)) ⌝ }
+{
+    flat::answer(by_number::words_view(flat::reading(r), t, view, out))
+}
+
+// The pairs, of type 3, into two lists side by side: 10, 7, 11.
+#[no_mangle]
+pub extern "C" fn xr_pairs_view(r: u8, view: &[u8], numbers: &mut [u16], times: &mut [u32]) -> Flat
+    ensures { λ a. ⌜ FlatPairs (pairsShown (readingOf r) (now (view .entry))) (now (numbers .entry))
+        (now (times .entry)) a (now (numbers .exit)) (now (times .exit)) ⌝ }
+{
+    flat::answer(packet_receipt_time::pairs(flat::reading(r), view, numbers, times))
+}
+
+// The entries, of type 5: 10, 7, 11.
+#[no_mangle]
+pub extern "C" fn xr_entries_view(
+    r: u8,
+    view: &[u8],
+    ssrcs: &mut [u32],
+    lasts: &mut [u32],
+    delays: &mut [u32],
+) -> Flat
+    ensures { λ a. ⌜ FlatEntries (entriesShown (readingOf r) (now (view .entry))) (now (ssrcs .entry))
+        (now (lasts .entry)) (now (delays .entry)) a (now (ssrcs .exit)) (now (lasts .exit)) (now (delays .exit)) ⌝ }
+{
+    flat::answer(dlrr::entries(flat::reading(r), view, ssrcs, lasts, delays))
+}
+
+// At most budget steps of the standard number cursor, asked as type t (1 or 2): 10, 7, 16, 11.
+#[no_mangle]
+pub extern "C" fn xr_cursor_view(
+    t: u8,
+    view: &[u8],
+    word: usize,
+    place: usize,
+    position: usize,
+    budget: usize,
+    out: &mut [u16],
+) -> FlatStretch
+    ensures { λ a. ⌜ (a ≡ flatStretch (advanceBy t (now (view .entry)) (here word place position) budget
+        (length (now (out .entry)))))
+        × (now (out .exit) ≡ filledBy t (now (view .entry)) (here word place position) budget (now (out .entry))) ⌝ }
+{
+    let c = Cursor {
+        word,
+        place,
+        position,
+    };
+    flat::stretch(by_number::advance_view(t, view, c, budget, out))
+}
+
+// What a chunk word is: its kind by xr_chunk's number, and its value.
+#[no_mangle]
+pub extern "C" fn xr_chunk_of(word: u16) -> Flat
+    ensures { λ a. ⌜ a ≡ flatChunk (chunkOf word) ⌝ }
+{
+    flat::kind_number(chunk::chunk_of(word))
 }

@@ -1,0 +1,86 @@
+/* What a C program does with the library: the numbers of a packet in both readings, a packet written so that an old
+ * reader is not misled, and a call that is refused. tools/foreign builds and runs it and compares what it prints with
+ * c/example.stdout. */
+#include <giunchemis.h>
+
+#include <inttypes.h>
+#include <stdio.h>
+#include <string.h>
+
+/* The 24 bytes of docs/RULES.md's dump: one loss block, of SSRC 7, from 10 up to 14, two runs of two ones. */
+static const uint8_t sample[24] = {
+    0x80, 0xcf, 0x00, 0x05, 0x00, 0x00, 0x00, 0x01, 0x01, 0x00, 0x00, 0x03,
+    0x00, 0x00, 0x00, 0x07, 0x00, 0x0a, 0x00, 0x0e, 0x40, 0x02, 0x40, 0x02,
+};
+
+/* The same block as a job list: the header record (sender 1, no padding), and a record of kind 1. All numbers are
+ * little-endian: the body's length (4), the kind (2), the body. */
+static const uint8_t job_list[] = {
+    6, 0, 0, 0, 0, 0,   1, 0, 0, 0,   0, 0,
+    14, 0, 0, 0, 1, 0,  7, 0, 0, 0,   10, 0,   14, 0,   0, 0,   0x02, 0x40,   0x02, 0x40,
+};
+
+/* Prints a refusal, and says that there was one. */
+static int refused(const char *what, xr_flat a) {
+    if (a.code == 0)
+        return 0;
+    printf("%s: refused %" PRIu32 " %" PRIu64 " %" PRIu64 "\n", what, a.code, a.first, a.second);
+    return 1;
+}
+
+/* Goes through a packet's blocks in one reading, each at the cost of one, and prints the numbers of the loss blocks. */
+static int show(const char *name, uint8_t r, const uint8_t *packet, size_t packet_len) {
+    xr_flat parsed = xr_parse(r, packet, packet_len);
+    if (refused(name, parsed))
+        return 1;
+    printf("reading %s: blocks %" PRIu64 " sender %" PRIu64 "\n", name, parsed.first, parsed.second);
+
+    size_t at = 8;
+    for (uint64_t k = 0; k < parsed.first; k++) {
+        xr_flat_block block = xr_block_at(r, packet, packet_len, at);
+        const uint8_t *view = packet + at;
+        printf("block %" PRIu64 " type %u length %" PRIu32 "\n", k, (unsigned)block.kind, block.length);
+        if (block.kind == XR_LOSS) {
+            uint16_t numbers[64];
+            xr_flat_fields f = xr_fields_view(r, XR_LOSS, view, block.size);
+            xr_flat listed = xr_numbers_view(r, XR_LOSS, view, block.size, numbers, 64);
+            if (f.code != 0 || refused("numbers", listed))
+                return 1;
+            printf("ssrc %" PRIu32 " begin %u end %u thinning %u\nnumbers", f.ssrc, (unsigned)f.begin,
+                (unsigned)f.end, (unsigned)f.thinning);
+            for (uint64_t i = 0; i < listed.first; i++)
+                printf(" %u", (unsigned)numbers[i]);
+            printf("\n");
+        }
+        at = block.next;
+    }
+    return 0;
+}
+
+int main(void) {
+    if (show("standard", XR_STANDARD, sample, sizeof sample) || show("crate", XR_CRATE, sample, sizeof sample))
+        return 1;
+
+    /* Ask first how long the packet is: no room is refused with the bytes that are needed. */
+    uint8_t packet[64];
+    memset(packet, 0xee, sizeof packet);
+    xr_flat needed = xr_write_careful(job_list, sizeof job_list, packet, 0);
+    if (!refused("careful writing into no room", needed) || needed.code != XR_NO_ROOM || packet[0] != 0xee)
+        return 1;
+    xr_flat wrote = xr_write_careful(job_list, sizeof job_list, packet, sizeof packet);
+    if (refused("careful writing", wrote))
+        return 1;
+    printf("careful writing: %" PRIu64 " bytes", wrote.first);
+    for (uint64_t i = 0; i < wrote.first; i++)
+        printf("%s%02x", i % 4 == 0 ? " " : "", packet[i]);
+    printf("\n");
+    if (show("standard", XR_STANDARD, packet, wrote.first) || show("crate", XR_CRATE, packet, wrote.first))
+        return 1;
+
+    /* A refused call: the sample has one block, so there is no block 3. */
+    uint16_t kept[2] = {7, 7};
+    if (!refused("block 3", xr_numbers(XR_STANDARD, sample, sizeof sample, 3, XR_LOSS, kept, 2)))
+        return 1;
+    printf("the lent list still holds %u %u\n", (unsigned)kept[0], (unsigned)kept[1]);
+    return 0;
+}
