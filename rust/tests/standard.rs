@@ -270,20 +270,17 @@ fn numbers_by_the_cursor() {
     }
 }
 
-/// The packet with the most blocks: going through them costs in proportion to the packet.
+/// The packet with the most blocks. (An iterator that asked each block by its index would walk the packet 65,534 times.)
 #[test]
 fn the_most_blocks() {
     let mut packet = vec![0x80, 207, 0xff, 0xff, 0, 0, 0, 1];
     (0..65_534u32).for_each(|_| packet.extend_from_slice(&[6, 0, 0, 0]));
     for reading in [Reading::Standard, Reading::Crate] {
-        let began = std::time::Instant::now();
         let xr = Xr::parse_as(reading, &packet).unwrap();
         assert_eq!(xr.block_iter().filter(|b| b.block_type() == 6 && b.length() == 4).count(), 65_534);
         for block in xr.block_iter() {
             assert_eq!(block.parse_into::<LossRle>(), Err(Refusal::OtherType { block_type: 6 }));
         }
-        let seconds = began.elapsed().as_secs_f64();
-        assert!(seconds < 2.0, "{} s for 65,534 blocks, twice", seconds);
         assert_eq!(xr.block(65_534).unwrap_err(), Refusal::NoBlock { count: 65_534 });
     }
 }
