@@ -1,1 +1,3 @@
+-- PatternLaws (the pattern), TellLaws (what is printed of a call that listed into lent memory is its answer alone).
 pub mod PatternLaws
+pub mod TellLaws

@@ -1,7 +1,10 @@
 // Lent memory with a pattern in it, and whether the pattern still stands (README, "xrprobe"): xrprobe lends memory in
-// this way, so that a call that stores anything behind its items would be seen.
+// this way, so that a call that stores anything behind its items would be seen: a line `spoilt` would follow its answer.
+// That it never does is proved (proofs/TellLaws.antt), so no definition of an answer speaks of it.
 ghost use mathlib.Core.Path.{_≡_};
 ghost use lib.ListN.{length, drop};
+ghost use Rattle.def_text.specs.Buffer.{Added};
+ghost use Rattle.lent.specs.Telling.{unlessWhole};
 ghost use Rattle.lent.specs.Pattern.{mark8 as mark8Of, mark16 as mark16Of, mark32 as mark32Of, pattern, stands};
 
 fn mark8(i: usize) -> u8
@@ -91,4 +94,14 @@ pub fn stands32(list: &[u32], from: usize) -> bool
         i += 1;
     }
     true
+}
+
+// A line `spoilt`, unless the memory is whole.
+pub fn said_whole(buf: &mut [u8], at: usize, whole: bool) -> usize
+    ensures { λ r. ⌜ Added (now (buf .entry)) at (unlessWhole whole) (now (buf .exit)) r ⌝ }
+{
+    if whole {
+        return at;
+    }
+    print::text(buf, at, b"spoilt\n")
 }
