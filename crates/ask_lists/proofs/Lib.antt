@@ -1,0 +1,2 @@
+-- RoomLaws (a line by the room that is lent).
+pub mod RoomLaws

@@ -1,0 +1,23 @@
+-- `ask_lists::entries_into` meets its contract: entries into three lent lists of equal room.
+use mathlib.Core.Path.{_≡_, refl, sym, ap, _∙_}
+use Rattle.print.proofs.AddedLaws.{reads}
+use lib.ListN.{length}
+use Rattle.lent.specs.Pattern.{mark32, pattern}
+use Rattle.lent.proofs.TellLaws.{listed-entries}
+use borrow.Author.Needs.{needs}
+use Rattle.ask_lists.proofs.entries_into.Statement.{statement}
+use Rattle.ask_lists.proofs.entries_into.Tie as tie
+
+returns : tie.Need-returns
+returns c =
+    let q = c .before .before .before .before .before .before .before .before .before .before .before .before .before .before .before .before .before .before .before .before .before .before .before .before .before .before .before .before .before .before .before .before .before .before .pre in
+    reads (listed-entries _ (c .before .before .before .before .before .before .before .before .before .before .before .before .before .before .before .before .before .before .before .before .before .before .before .before .before .before .before .fill32 .ensures)
+    (c .before .before .before .before .before .before .before .before .before .before .before .before .before .before .before .before .before .before .before .before .before .before .before .fill322 .ensures ∙ ap (pattern mark32 0) (q .0))
+    (c .before .before .before .before .before .before .before .before .before .before .before .before .before .before .before .before .before .before .before .fill323 .ensures ∙ ap (pattern mark32 0) (q .1))
+    (c .before .before .before .before .before .before .before .before .before .before .before .before .before .entries-in .ensures))
+    (c .before .before .tell-entries .ensures)
+
+pub entries-into-spec : {M : Type 1} → statement M
+entries-into-spec =
+    tie.close
+    (tie.spec (λ c κs. search needs) (λ c κs. search needs) (λ c κs. search needs) (λ c κs. search needs) (λ c κs. search needs) (λ c. search needs) (λ c. search needs) (λ c. search needs) (λ c. search needs) returns)

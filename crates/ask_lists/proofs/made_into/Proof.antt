@@ -1,0 +1,18 @@
+-- `ask_lists::made_into` meets its contract: words from marks into lent memory.
+use Rattle.print.proofs.AddedLaws.{reads}
+use Rattle.lent.specs.Pattern.{mark16}
+use Rattle.def_dump.specs.Lines.{wordsLine}
+use Rattle.lent.proofs.TellLaws.{listed}
+use borrow.Author.Needs.{needs}
+use Rattle.ask_lists.proofs.made_into.Statement.{statement}
+use Rattle.ask_lists.proofs.made_into.Tie as tie
+
+returns : tie.Need-returns
+returns c =
+    reads (listed mark16 wordsLine _ (c .before .before .before .before .before .before .before .before .before .before .before .fill16 .ensures) (c .before .before .before .before .before .before .before .words .ensures))
+    (c .before .before .tell-words .ensures)
+
+pub made-into-spec : {M : Type 1} → statement M
+made-into-spec =
+    tie.close
+    (tie.spec (λ c κs. search needs) (λ c κs. search needs) (λ c κs. search needs) (λ c. search needs) (λ c. search needs) returns)
