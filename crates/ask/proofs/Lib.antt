@@ -1,0 +1,2 @@
+-- AskLaws (each way in which a question ends).
+pub mod AskLaws

@@ -1,0 +1,18 @@
+-- `ask::written_into` meets its contract: a packet into lent memory.
+use Rattle.print.proofs.AddedLaws.{reads}
+use Rattle.lent.specs.Pattern.{mark8}
+use Rattle.def_dump.specs.Lines.{packetLine}
+use Rattle.lent.proofs.TellLaws.{listed}
+use borrow.Author.Needs.{needs}
+use Rattle.ask.proofs.written_into.Statement.{statement}
+use Rattle.ask.proofs.written_into.Tie as tie
+
+returns : tie.Need-returns
+returns c =
+    reads (listed mark8 packetLine _ (c .before .before .before .before .before .before .before .before .before .before .before .fill8 .ensures) (c .before .before .before .before .before .before .before .write-in .ensures))
+    (c .before .before .tell-packet .ensures)
+
+pub written-into-spec : {M : Type 1} → statement M
+written-into-spec =
+    tie.close
+    (tie.spec (λ c κs. search needs) (λ c κs. search needs) (λ c κs. search needs) (λ c. search needs) (λ c. search needs) returns)
