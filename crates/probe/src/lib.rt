@@ -2,8 +2,7 @@
 // answered. `answer` promises that it has added exactly the text of def_probe's `answerTo`, and nothing where the
 // request is none that is served.
 ghost use mathlib.Core.Path.{_≡_};
-ghost use mathlib.Core.Bool.{cond};
-ghost use lib.Dec.{eqb};
+ghost use mathlib.Core.Bool.{true, false};
 ghost use lib.ListN.{drop};
 ghost use Rattle.def_jobs.specs.Jobs.{le32};
 ghost use Rattle.def_text.specs.Buffer.{Added};
@@ -12,7 +11,7 @@ ghost use Rattle.def_probe.specs.Requests.{numbersText, wordsText, pairsText, e
 ghost use Rattle.def_probe.specs.Requests.{wordsReply, numbersReply, shownText, shownReply, stretchText, stretchReply};
 ghost use Rattle.def_probe.specs.Requests.{writtenText, writtenReply, madeText, madeReply, parsedText, parsedReply};
 ghost use Rattle.def_probe.specs.Requests.{marksText, marksReply, viewText, viewReply};
-ghost use Rattle.probe.specs.Replied.{Replied};
+ghost use Rattle.probe.specs.Replied.{Replied, beginsWell};
 use def_cursor::Cursor;
 use def_jobs::Layout;
 use def_standard::Chunk;
@@ -180,4 +179,129 @@ fn begins(p: &[u8], least: usize) -> bool
         return false;
     }
     utils::byte_at(p, 0) <= 1
+}
+
+// Kind 2: numbers, pairs or entries.
+fn listed(p: &[u8], buf: &mut [u8], at: usize) -> Told
+    ensures { λ r. ⌜ Replied (now (buf .entry)) at (listReply (now (p .entry))) (now (buf .exit)) r ⌝ }
+{
+    if begins(p, 10) {
+        return typed(utils::byte_at(p, 5), p, buf, at);
+    }
+    cut(at)
+}
+
+// Kind 9: chunk words.
+fn words_asked(p: &[u8], buf: &mut [u8], at: usize) -> Told
+    ensures { λ r. ⌜ Replied (now (buf .entry)) at (wordsReply (now (p .entry))) (now (buf .exit)) r ⌝ }
+{
+    if begins(p, 10) {
+        return served(words(p, buf, at));
+    }
+    cut(at)
+}
+
+// Kind 14: numbers, of any asked type.
+fn numbers_asked(p: &[u8], buf: &mut [u8], at: usize) -> Told
+    ensures { λ r. ⌜ Replied (now (buf .entry)) at (numbersReply (now (p .entry))) (now (buf .exit)) r ⌝ }
+{
+    if begins(p, 10) {
+        return served(numbers(p, buf, at));
+    }
+    cut(at)
+}
+
+// Kind 3: a block's time or its fields.
+fn shown_asked(p: &[u8], buf: &mut [u8], at: usize) -> Told
+    ensures { λ r. ⌜ Replied (now (buf .entry)) at (shownReply (now (p .entry))) (now (buf .exit)) r ⌝ }
+{
+    if begins(p, 6) {
+        return served(shown(p, buf, at));
+    }
+    cut(at)
+}
+
+// Kind 8: a packet's blocks and sender.
+fn parse_asked(p: &[u8], buf: &mut [u8], at: usize) -> Told
+    ensures { λ r. ⌜ Replied (now (buf .entry)) at (parsedReply (now (p .entry))) (now (buf .exit)) r ⌝ }
+{
+    if begins(p, 1) {
+        return served(parsed(p, buf, at));
+    }
+    cut(at)
+}
+
+// Kind 11: a block's view.
+fn view_asked(p: &[u8], buf: &mut [u8], at: usize) -> Told
+    ensures { λ r. ⌜ Replied (now (buf .entry)) at (viewReply (now (p .entry))) (now (buf .exit)) r ⌝ }
+{
+    if begins(p, 5) {
+        return served(viewed(p, buf, at));
+    }
+    cut(at)
+}
+
+// Kind 4: a stretch of the number cursor.
+fn stretch_asked(p: &[u8], buf: &mut [u8], at: usize) -> Told
+    ensures { λ r. ⌜ Replied (now (buf .entry)) at (stretchReply (now (p .entry))) (now (buf .exit)) r ⌝ }
+{
+    if 25 <= p.len() {
+        return served(stretch(p, buf, at));
+    }
+    cut(at)
+}
+
+// Kinds 5 (plain) and 6 (careful): a packet.
+fn write_asked(layout: Layout, p: &[u8], buf: &mut [u8], at: usize) -> Told
+    ensures { λ r. ⌜ Replied (now (buf .entry)) at (writtenReply layout (now (p .entry))) (now (buf .exit)) r ⌝ }
+{
+    if 4 <= p.len() {
+        return served(written(layout, p, buf, at));
+    }
+    cut(at)
+}
+
+// Kind 10: words from marks.
+fn marks_asked(p: &[u8], buf: &mut [u8], at: usize) -> Told
+    ensures { λ r. ⌜ Replied (now (buf .entry)) at (marksReply (now (p .entry))) (now (buf .exit)) r ⌝ }
+{
+    if 4 <= p.len() {
+        return served(from_marks(p, buf, at));
+    }
+    cut(at)
+}
+
+// Kind 7: a chunk word.
+fn word_asked(p: &[u8], buf: &mut [u8], at: usize) -> Told
+    ensures { λ r. ⌜ Replied (now (buf .entry)) at (madeReply (now (p .entry))) (now (buf .exit)) r ⌝ }
+{
+    if p.len() == 9 {
+        if utils::byte_at(p, 0) <= 3 {
+            return served(made(p, buf, at));
+        }
+        return cut(at);
+    }
+    cut(at)
+}
+
+// The answer to a request of a kind.
+pub fn answer(kind: u8, p: &[u8], buf: &mut [u8], at: usize) -> Told
+    ensures { λ r. ⌜ Added (now (buf .entry)) at (replyText (answerTo kind (now (p .entry)))) (now (buf .exit)) (r .at) ⌝ }
+    ensures { λ r. ⌜ r .served ≡ isTold (answerTo kind (now (p .entry))) ⌝ }
+{
+    match kind {
+        1 => served(dump::dump(p, buf, at)),
+        2 => listed(p, buf, at),
+        3 => shown_asked(p, buf, at),
+        4 => stretch_asked(p, buf, at),
+        5 => write_asked(Layout::Plain, p, buf, at),
+        6 => write_asked(Layout::Careful, p, buf, at),
+        7 => word_asked(p, buf, at),
+        8 => parse_asked(p, buf, at),
+        9 => words_asked(p, buf, at),
+        10 => marks_asked(p, buf, at),
+        11 => view_asked(p, buf, at),
+        14 => numbers_asked(p, buf, at),
+        _ => cut(at),
+    }
 }

@@ -1,0 +1,18 @@
+-- `probe::written` meets its contract: a packet, as the payload asks.
+use Rattle.def_probe.specs.Requests.{writtenText}
+use borrow.Author.Needs.{needs}
+use Rattle.probe.proofs.written.Statement.{statement}
+use Rattle.probe.proofs.written.Tie as tie
+
+returns : tie.Need-returns
+unfolding writtenText
+returns c =
+    rw (
+      c .before .before .before .before .before .behind .ensures,
+      c .before .before .before .before .number .ensures,
+    ) at (c .before .before .written .ensures)
+
+pub written-spec : {M : Type 1} → statement M
+written-spec =
+    tie.close
+    (tie.spec (λ c κs. search needs) (λ c κs. search needs) (λ c κs. search needs) (λ c. search needs) returns)
