@@ -13,7 +13,7 @@ use Rattle.def_standard.specs.declared.Chunk.the-variants.{Null, Skip, Run, Vec
 use Rattle.def_probe.specs.Requests.{Reply, told, cut, replyText, isTold, readingFirst, lineIn, listRoom, chunkAsked}
 use Rattle.def_probe.specs.Requests.{mostListed, mostWritten, mostMade, answerTo}
 use Rattle.examples.specs.Vectors.{packet4}
-use Rattle.examples.specs.Rows.{packet, le4, header, clock}
+use Rattle.examples.specs.Rows.{packet, le4, header, report}
 use Rattle.examples.specs.Text.{textOf}
 
 -- a reply of these lines
@@ -53,6 +53,10 @@ doubled = packet (0x02000003 ∷ 7 ∷ 0x000a000e ∷ 0x40024002 ∷ [])
 
 abbrev pub second : List ℕ
 second = packet (0x63000000 ∷ 0x01000003 ∷ 7 ∷ 0x000a000e ∷ 0x40024002 ∷ [])
+
+-- the job list of a report on 10 to 13
+abbrev pub reported : List ℕ
+reported = header 0 ++ report 1 10 14 0 (16386 ∷ 16386 ∷ [])
 
 pub record Parts : Type 0 where
   pub of-a-reply :
@@ -105,7 +109,9 @@ pub record OfLists : Type 0 where
       × (answerTo 14 (lists 0 0 3 9 packet4) ≡ says ("refused 10 1 0" ∷ []))
   pub words :
       (answerTo 9 (lists 0 0 1 2 packet4) ≡ says ("words 16386 16386" ∷ []))
-      × (answerTo 9 (lists 1 0 1 1 packet4) ≡ says ("refused 11 2 1" ∷ []))
+      × (answerTo 9 (lists 0 0 1 1 packet4) ≡ says ("refused 11 2 1" ∷ []))
+      × (answerTo 9 (lists 1 0 1 1 packet4) ≡ says ("words 16386" ∷ []))
+      × (answerTo 9 (lists 0 1 1 2 second) ≡ says ("words 16386 16386" ∷ []))
   pub of-any-type :
       (answerTo 14 (lists 1 0 1 4 packet4) ≡ says ("numbers 10 11" ∷ []))
       × (answerTo 14 (lists 0 0 1 3 packet4) ≡ says ("refused 11 4 3" ∷ []))
@@ -169,12 +175,13 @@ pub record OfStretches : Type 0 where
 
 -- kinds 5, 6, 7 and 10
 pub record OfWriting : Type 0 where
+  -- the layouts differ
   pub plain :
-      (answerTo 5 (le4 20 ++ (header 0 ++ clock 1 2)) ≡ says ("packet 80cf00040000000104000002" ∷ []))
-      × (answerTo 5 (le4 19 ++ (header 0 ++ clock 1 2)) ≡ says ("refused 11 20 19" ∷ []))
+      (answerTo 5 (le4 24 ++ reported) ≡ says ("packet 80cf0005000000010100000300000007000a000e40024002" ∷ []))
+      × (answerTo 5 (le4 23 ++ reported) ≡ says ("refused 11 24 23" ∷ []))
   pub careful :
-      (answerTo 6 (le4 20 ++ (header 0 ++ clock 1 2)) ≡ says ("packet 80cf0004000000010400000200000001" ∷ []))
-      × (answerTo 6 (le4 99 ++ (1 ∷ [])) ≡ says ("refused 12 0 0" ∷ []))
+      (answerTo 6 (le4 28 ++ reported) ≡ says ("packet 80cf0006000000010100000400000007000a000e4002400200000000" ∷ []))
+      × (answerTo 6 (le4 27 ++ reported) ≡ says ("refused 11 28 27" ∷ []))
   pub a-word :
       (answerTo 7 (makes 2 2 2) ≡ says ("word 4002" ∷ [])) × (answerTo 7 (makes 0 9 8) ≡ says ("word 0000" ∷ []))
       × (answerTo 7 (makes 1 3 2) ≡ says ("word 0003" ∷ [])) × (answerTo 7 (makes 3 5 9) ≡ says ("word 8005" ∷ []))
