@@ -1,2 +1,3 @@
--- AskLaws (each way in which a question ends).
+-- AskLaws (each way in which a question ends), Unique (no second answer).
 pub mod AskLaws
+pub mod Unique

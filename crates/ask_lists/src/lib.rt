@@ -59,7 +59,15 @@ fn tell_words(buf: &mut [u8], at: usize, list: &[u16], a: Answer) -> usize
     }
 }
 
-fn numbers_into(r: Reading, s: &[u8], k: usize, t: u8, list: &mut [u16], buf: &mut [u8], at: usize) -> usize
+fn numbers_into(
+    r: Reading,
+    s: &[u8],
+    k: usize,
+    t: u8,
+    list: &mut [u16],
+    buf: &mut [u8],
+    at: usize,
+) -> usize
     ensures { λ n. ⌜ Added (now (buf .entry)) at
         (lineIn (length (now (list .entry))) numbersLine (numbersBy r (now (s .entry)) k t)) (now (buf .exit)) n ⌝ }
 {
@@ -69,7 +77,15 @@ fn numbers_into(r: Reading, s: &[u8], k: usize, t: u8, list: &mut [u16], buf: &m
 }
 
 // Block k's numbers, asked by a number.
-pub fn numbers(r: Reading, s: &[u8], k: usize, t: u8, room: usize, buf: &mut [u8], at: usize) -> usize
+pub fn numbers(
+    r: Reading,
+    s: &[u8],
+    k: usize,
+    t: u8,
+    room: usize,
+    buf: &mut [u8],
+    at: usize,
+) -> usize
     ensures { λ n. ⌜ Added (now (buf .entry)) at
         (lineIn (min room mostListed) numbersLine (numbersBy r (now (s .entry)) k t)) (now (buf .exit)) n ⌝ }
 {
@@ -78,7 +94,15 @@ pub fn numbers(r: Reading, s: &[u8], k: usize, t: u8, room: usize, buf: &mut [u8
     numbers_into(r, s, k, t, &mut list[0..n], buf, at)
 }
 
-fn words_into(r: Reading, s: &[u8], k: usize, t: u8, list: &mut [u16], buf: &mut [u8], at: usize) -> usize
+fn words_into(
+    r: Reading,
+    s: &[u8],
+    k: usize,
+    t: u8,
+    list: &mut [u16],
+    buf: &mut [u8],
+    at: usize,
+) -> usize
     ensures { λ n. ⌜ Added (now (buf .entry)) at
         (lineIn (length (now (list .entry))) wordsLine (wordsBy r (now (s .entry)) k t)) (now (buf .exit)) n ⌝ }
 {
@@ -132,7 +156,15 @@ fn tell_pairs(buf: &mut [u8], at: usize, ns: &[u16], ts: &[u32], a: Answer) -> u
 }
 
 // Two lists of equal room.
-fn pairs_into(r: Reading, s: &[u8], k: usize, ns: &mut [u16], ts: &mut [u32], buf: &mut [u8], at: usize) -> usize
+fn pairs_into(
+    r: Reading,
+    s: &[u8],
+    k: usize,
+    ns: &mut [u16],
+    ts: &mut [u32],
+    buf: &mut [u8],
+    at: usize,
+) -> usize
     requires { ⌜ length (now ts) ≡ length (now ns) ⌝ }
     ensures { λ n. ⌜ Added (now (buf .entry)) at
         (lineIn (length (now (ns .entry))) pairsLine (pairsAsked r (now (s .entry)) k)) (now (buf .exit)) n ⌝ }

@@ -63,25 +63,55 @@ fn reading(p: &[u8]) -> Reading
 fn numbers(p: &[u8], buf: &mut [u8], at: usize) -> usize
     ensures { λ n. ⌜ Added (now (buf .entry)) at (numbersText (now (p .entry))) (now (buf .exit)) n ⌝ }
 {
-    ask_lists::numbers(reading(p), behind(p, 10), number(p, 1), utils::byte_at(p, 5), number(p, 6), buf, at)
+    ask_lists::numbers(
+        reading(p),
+        behind(p, 10),
+        number(p, 1),
+        utils::byte_at(p, 5),
+        number(p, 6),
+        buf,
+        at,
+    )
 }
 
 fn words(p: &[u8], buf: &mut [u8], at: usize) -> usize
     ensures { λ n. ⌜ Added (now (buf .entry)) at (wordsText (now (p .entry))) (now (buf .exit)) n ⌝ }
 {
-    ask_lists::words(reading(p), behind(p, 10), number(p, 1), utils::byte_at(p, 5), number(p, 6), buf, at)
+    ask_lists::words(
+        reading(p),
+        behind(p, 10),
+        number(p, 1),
+        utils::byte_at(p, 5),
+        number(p, 6),
+        buf,
+        at,
+    )
 }
 
 fn pairs(p: &[u8], buf: &mut [u8], at: usize) -> usize
     ensures { λ n. ⌜ Added (now (buf .entry)) at (pairsText (now (p .entry))) (now (buf .exit)) n ⌝ }
 {
-    ask_lists::pairs(reading(p), behind(p, 10), number(p, 1), number(p, 6), buf, at)
+    ask_lists::pairs(
+        reading(p),
+        behind(p, 10),
+        number(p, 1),
+        number(p, 6),
+        buf,
+        at,
+    )
 }
 
 fn entries(p: &[u8], buf: &mut [u8], at: usize) -> usize
     ensures { λ n. ⌜ Added (now (buf .entry)) at (entriesText (now (p .entry))) (now (buf .exit)) n ⌝ }
 {
-    ask_lists::entries(reading(p), behind(p, 10), number(p, 1), number(p, 6), buf, at)
+    ask_lists::entries(
+        reading(p),
+        behind(p, 10),
+        number(p, 1),
+        number(p, 6),
+        buf,
+        at,
+    )
 }
 
 fn shown(p: &[u8], buf: &mut [u8], at: usize) -> usize
@@ -103,7 +133,16 @@ fn stretch(p: &[u8], buf: &mut [u8], at: usize) -> usize
         position: number(p, 13),
     };
     let t = utils::byte_at(p, 4);
-    ask_lists::stretch(behind(p, 25), number(p, 0), t, from, number(p, 17), number(p, 21), buf, at)
+    ask_lists::stretch(
+        behind(p, 25),
+        number(p, 0),
+        t,
+        from,
+        number(p, 17),
+        number(p, 21),
+        buf,
+        at,
+    )
 }
 
 fn written(layout: Layout, p: &[u8], buf: &mut [u8], at: usize) -> usize
