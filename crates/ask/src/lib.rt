@@ -13,7 +13,8 @@ ghost use Rattle.def_questions.specs.ByNumber.{fieldsBy};
 ghost use Rattle.def_jobs.specs.Writing.{packetOf};
 ghost use Rattle.def_text.specs.Buffer.{Added};
 ghost use Rattle.def_dump.specs.Lines.{packetLine};
-ghost use Rattle.def_probe.specs.Requests.{mostWritten, mostMade, lineIn, fieldsTold, timeTold, blocksTold, viewTold, wordTold};
+ghost use Rattle.def_probe.specs.Requests.{mostWritten, mostMade, lineIn, fieldsTold, timeTold, blocksTold, viewTold};
+ghost use Rattle.def_probe.specs.Requests.{wordTold};
 ghost use Rattle.lent.specs.Pattern.{mark8};
 ghost use Rattle.lent.specs.Telling.{tellList};
 use def_jobs::Layout;
@@ -74,7 +75,8 @@ pub fn viewed(r: Reading, s: &[u8], k: usize, buf: &mut [u8], at: usize) -> usiz
 }
 
 fn tell_packet(buf: &mut [u8], at: usize, out: &[u8], a: Answer) -> usize
-    ensures { λ r. ⌜ Added (now (buf .entry)) at (tellList mark8 packetLine a (now (out .entry))) (now (buf .exit)) r ⌝ }
+    ensures { λ r. ⌜ Added (now (buf .entry)) at (tellList mark8 packetLine a (now (out .entry)))
+        (now (buf .exit)) r ⌝ }
 {
     match a {
         Answer::Done(n) => {

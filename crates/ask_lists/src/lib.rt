@@ -1,6 +1,6 @@
-// The questions of xrprobe that are answered by a list (README, "xrprobe", kinds 2, 4, 9, 10 and 14): memory of so much
-// room is lent with a pattern in it, the library's function is asked, and the list's line or the refusal is added to
-// the buffer. Each function promises that it has added exactly def_probe's line: that `spoilt` is never printed is
+// The questions of xrprobe that are answered by a list (README, "xrprobe", kinds 2, 4, 9, 10 and 14): memory of so
+// much room is lent with a pattern in it, the library's function is asked, and the list's line or the refusal is added
+// to the buffer. Each function promises that it has added exactly def_probe's line: that `spoilt` is never printed is
 // part of its proof.
 ghost use Prim.Native.Nat.{min};
 ghost use mathlib.Core.Path.{_≡_};
@@ -30,7 +30,8 @@ fn both(a: bool, b: bool) -> bool
 }
 
 fn tell_numbers(buf: &mut [u8], at: usize, list: &[u16], a: Answer) -> usize
-    ensures { λ r. ⌜ Added (now (buf .entry)) at (tellList mark16 numbersLine a (now (list .entry))) (now (buf .exit)) r ⌝ }
+    ensures { λ r. ⌜ Added (now (buf .entry)) at (tellList mark16 numbersLine a (now (list .entry)))
+        (now (buf .exit)) r ⌝ }
 {
     match a {
         Answer::Done(n) => {
@@ -45,7 +46,8 @@ fn tell_numbers(buf: &mut [u8], at: usize, list: &[u16], a: Answer) -> usize
 }
 
 fn tell_words(buf: &mut [u8], at: usize, list: &[u16], a: Answer) -> usize
-    ensures { λ r. ⌜ Added (now (buf .entry)) at (tellList mark16 wordsLine a (now (list .entry))) (now (buf .exit)) r ⌝ }
+    ensures { λ r. ⌜ Added (now (buf .entry)) at (tellList mark16 wordsLine a (now (list .entry)))
+        (now (buf .exit)) r ⌝ }
 {
     match a {
         Answer::Done(n) => {
@@ -141,7 +143,8 @@ pub fn made(ms: &[u8], room: usize, buf: &mut [u8], at: usize) -> usize
 }
 
 fn tell_pairs(buf: &mut [u8], at: usize, ns: &[u16], ts: &[u32], a: Answer) -> usize
-    ensures { λ r. ⌜ Added (now (buf .entry)) at (tellPairs a (now (ns .entry)) (now (ts .entry))) (now (buf .exit)) r ⌝ }
+    ensures { λ r. ⌜ Added (now (buf .entry)) at (tellPairs a (now (ns .entry)) (now (ts .entry)))
+        (now (buf .exit)) r ⌝ }
 {
     match a {
         Answer::Done(n) => {

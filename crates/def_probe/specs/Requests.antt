@@ -1,5 +1,5 @@
 -- What xrprobe answers to a request: its kind and its payload p. To be read beside the table of README, "xrprobe":
--- each definition from `dumpReply` on is a row of it, and cites the row. Numbers in a payload are little-endian (`le32`).
+-- from `dumpReply` on, each group of definitions begins with its row. Numbers in a payload are little-endian (`le32`).
 --     Reply          text lines, or `cut`
 --     lineIn         a list's line in so much room, else the refusal's
 --     answerTo       the reply to a request
@@ -163,7 +163,8 @@ stretchIn s k t c budget room =
 
 unfoldable pub stretchText : List ℕ → List ℕ
 stretchText p =
-    stretchIn (drop 25 p) (le32 p 0) (byteAt p 4) (cursor (le32 p 5) (le32 p 9) (le32 p 13)) (le32 p 17) (listRoom p 21)
+    stretchIn (drop 25 p) (le32 p 0) (byteAt p 4) (cursor (le32 p 5) (le32 p 9) (le32 p 13)) (le32 p 17)
+    (listRoom p 21)
 
 unfoldable pub stretchReply : List ℕ → Reply
 stretchReply p = atLeast 25 p (told (stretchText p))
@@ -175,7 +176,8 @@ writtenText layout p = lineIn (min (le32 p 0) mostWritten) packetLine (packetOf 
 unfoldable pub writtenReply : Layout → List ℕ → Reply
 writtenReply layout p = atLeast 4 p (told (writtenText layout p))
 
--- 7: kind of word (1: 0 null, 1 zeros, 2 ones, 3 vector), value (4), room (4), and nothing behind. The word's two bytes
+-- 7: kind of word (1: 0 null, 1 zeros, 2 ones, 3 vector), value (4), room (4), and nothing behind it. The word's two
+-- bytes
 unfoldable pub chunkAsked : ℕ → ℕ → Chunk
 chunkAsked k value = cond (eqb k 0) Null (cond (eqb k 1) (Skip value) (cond (eqb k 2) (Run value) (Vector value)))
 

@@ -19,14 +19,17 @@ use Rattle.def_jobs.specs.Shown.{recordOf, numbersRow}
 use Rattle.def_jobs.specs.Jobs.{pairLow, jobsFrom, isHeaderJob, isBlockJob, jobsFault, askedOf}
 use Rattle.def_jobs.specs.Layout.{zerosBehind, blockBytes, blocksBytes, layoutOf}
 use Rattle.def_jobs.specs.Writing.{misleadingFrom, writeFault, packetOf}
-use Rattle.def_marks.specs.Marks.{runOf, bitsOf, wordFor, takenBy as marksTakenBy, wordsFrom, badFrom, marksFault, marksAsked}
+use Rattle.def_marks.specs.Marks.{runOf, bitsOf, wordFor, takenBy as marksTakenBy, wordsFrom, badFrom}
+use Rattle.def_marks.specs.Marks.{marksFault, marksAsked}
 use Rattle.def_text.specs.Numerals.{decimalWithin, hexesOf, spacedAll}
 use Rattle.def_dump.specs.Lines.{refusedLine, refusalLine, fieldsLine, timeLine, listLine, pairNumbers, entryNumbers}
 use Rattle.def_dump.specs.Lines.{takenLine, wordLine, blocksLine, viewLine, packetLine}
 use Rattle.def_dump.specs.Dump.{readingText, dumpText}
 use Rattle.def_probe.specs.Requests.{lineIn, numbersText, wordsText, pairsText, entriesText, typedReply, listReply}
-use Rattle.def_probe.specs.Requests.{wordsReply, numbersReply, shownText, shownReply, stretchOn, stretchIn, stretchText}
-use Rattle.def_probe.specs.Requests.{stretchReply, writtenText, writtenReply, chunkAsked, madeText, madeReply, parsedText}
+use Rattle.def_probe.specs.Requests.{wordsReply, numbersReply, shownText, shownReply, stretchOn, stretchIn}
+use Rattle.def_probe.specs.Requests.{stretchText}
+use Rattle.def_probe.specs.Requests.{stretchReply, writtenText, writtenReply, chunkAsked, madeText, madeReply}
+use Rattle.def_probe.specs.Requests.{parsedText}
 use Rattle.def_probe.specs.Requests.{parsedReply, marksText, marksReply, viewText, viewReply, answerTo}
 use Rattle.examples.specs.Probe.{Parts, OfDump, OfLists, OfBlocks, OfStretches, OfWriting, NotServed}
 
@@ -37,8 +40,8 @@ unfolding numbered answerOf filledOf pairUp headerOf placeOf walkFrom countOf lo
     wordsShown numbersShown pairsShown entriesShown wordsAsked numbersAsked pairsAsked entriesAsked fieldsAsked
     timeAsked wordsBy numbersBy fieldsBy legal stepOf listedAt takenBy afterSteps listedBy stepsLeft advanceFault
     advanceOf stretchFilled recordOf numbersRow pairLow jobsFrom isHeaderJob isBlockJob jobsFault askedOf zerosBehind
-    blockBytes blocksBytes layoutOf misleadingFrom writeFault packetOf runOf bitsOf wordFor marksTakenBy wordsFrom badFrom
-    marksFault marksAsked decimalWithin hexesOf spacedAll refusedLine refusalLine fieldsLine timeLine listLine
+    blockBytes blocksBytes layoutOf misleadingFrom writeFault packetOf runOf bitsOf wordFor marksTakenBy wordsFrom
+    badFrom marksFault marksAsked decimalWithin hexesOf spacedAll refusedLine refusalLine fieldsLine timeLine listLine
     pairNumbers entryNumbers takenLine wordLine blocksLine viewLine packetLine readingText dumpText lineIn numbersText
     wordsText pairsText entriesText typedReply listReply wordsReply numbersReply shownText shownReply stretchOn
     stretchIn stretchText stretchReply writtenText writtenReply chunkAsked madeText madeReply parsedText parsedReply
@@ -60,8 +63,8 @@ unfolding numbered answerOf filledOf pairUp headerOf placeOf walkFrom countOf lo
     wordsShown numbersShown pairsShown entriesShown wordsAsked numbersAsked pairsAsked entriesAsked fieldsAsked
     timeAsked wordsBy numbersBy fieldsBy legal stepOf listedAt takenBy afterSteps listedBy stepsLeft advanceFault
     advanceOf stretchFilled recordOf numbersRow pairLow jobsFrom isHeaderJob isBlockJob jobsFault askedOf zerosBehind
-    blockBytes blocksBytes layoutOf misleadingFrom writeFault packetOf runOf bitsOf wordFor marksTakenBy wordsFrom badFrom
-    marksFault marksAsked decimalWithin hexesOf spacedAll refusedLine refusalLine fieldsLine timeLine listLine
+    blockBytes blocksBytes layoutOf misleadingFrom writeFault packetOf runOf bitsOf wordFor marksTakenBy wordsFrom
+    badFrom marksFault marksAsked decimalWithin hexesOf spacedAll refusedLine refusalLine fieldsLine timeLine listLine
     pairNumbers entryNumbers takenLine wordLine blocksLine viewLine packetLine readingText dumpText lineIn numbersText
     wordsText pairsText entriesText typedReply listReply wordsReply numbersReply shownText shownReply stretchOn
     stretchIn stretchText stretchReply writtenText writtenReply chunkAsked madeText madeReply parsedText parsedReply
@@ -78,8 +81,8 @@ unfolding numbered answerOf filledOf pairUp headerOf placeOf walkFrom countOf lo
     wordsShown numbersShown pairsShown entriesShown wordsAsked numbersAsked pairsAsked entriesAsked fieldsAsked
     timeAsked wordsBy numbersBy fieldsBy legal stepOf listedAt takenBy afterSteps listedBy stepsLeft advanceFault
     advanceOf stretchFilled recordOf numbersRow pairLow jobsFrom isHeaderJob isBlockJob jobsFault askedOf zerosBehind
-    blockBytes blocksBytes layoutOf misleadingFrom writeFault packetOf runOf bitsOf wordFor marksTakenBy wordsFrom badFrom
-    marksFault marksAsked decimalWithin hexesOf spacedAll refusedLine refusalLine fieldsLine timeLine listLine
+    blockBytes blocksBytes layoutOf misleadingFrom writeFault packetOf runOf bitsOf wordFor marksTakenBy wordsFrom
+    badFrom marksFault marksAsked decimalWithin hexesOf spacedAll refusedLine refusalLine fieldsLine timeLine listLine
     pairNumbers entryNumbers takenLine wordLine blocksLine viewLine packetLine readingText dumpText lineIn numbersText
     wordsText pairsText entriesText typedReply listReply wordsReply numbersReply shownText shownReply stretchOn
     stretchIn stretchText stretchReply writtenText writtenReply chunkAsked madeText madeReply parsedText parsedReply
@@ -105,8 +108,8 @@ unfolding numbered answerOf filledOf pairUp headerOf placeOf walkFrom countOf lo
     wordsShown numbersShown pairsShown entriesShown wordsAsked numbersAsked pairsAsked entriesAsked fieldsAsked
     timeAsked wordsBy numbersBy fieldsBy legal stepOf listedAt takenBy afterSteps listedBy stepsLeft advanceFault
     advanceOf stretchFilled recordOf numbersRow pairLow jobsFrom isHeaderJob isBlockJob jobsFault askedOf zerosBehind
-    blockBytes blocksBytes layoutOf misleadingFrom writeFault packetOf runOf bitsOf wordFor marksTakenBy wordsFrom badFrom
-    marksFault marksAsked decimalWithin hexesOf spacedAll refusedLine refusalLine fieldsLine timeLine listLine
+    blockBytes blocksBytes layoutOf misleadingFrom writeFault packetOf runOf bitsOf wordFor marksTakenBy wordsFrom
+    badFrom marksFault marksAsked decimalWithin hexesOf spacedAll refusedLine refusalLine fieldsLine timeLine listLine
     pairNumbers entryNumbers takenLine wordLine blocksLine viewLine packetLine readingText dumpText lineIn numbersText
     wordsText pairsText entriesText typedReply listReply wordsReply numbersReply shownText shownReply stretchOn
     stretchIn stretchText stretchReply writtenText writtenReply chunkAsked madeText madeReply parsedText parsedReply
@@ -129,8 +132,8 @@ unfolding numbered answerOf filledOf pairUp headerOf placeOf walkFrom countOf lo
     wordsShown numbersShown pairsShown entriesShown wordsAsked numbersAsked pairsAsked entriesAsked fieldsAsked
     timeAsked wordsBy numbersBy fieldsBy legal stepOf listedAt takenBy afterSteps listedBy stepsLeft advanceFault
     advanceOf stretchFilled recordOf numbersRow pairLow jobsFrom isHeaderJob isBlockJob jobsFault askedOf zerosBehind
-    blockBytes blocksBytes layoutOf misleadingFrom writeFault packetOf runOf bitsOf wordFor marksTakenBy wordsFrom badFrom
-    marksFault marksAsked decimalWithin hexesOf spacedAll refusedLine refusalLine fieldsLine timeLine listLine
+    blockBytes blocksBytes layoutOf misleadingFrom writeFault packetOf runOf bitsOf wordFor marksTakenBy wordsFrom
+    badFrom marksFault marksAsked decimalWithin hexesOf spacedAll refusedLine refusalLine fieldsLine timeLine listLine
     pairNumbers entryNumbers takenLine wordLine blocksLine viewLine packetLine readingText dumpText lineIn numbersText
     wordsText pairsText entriesText typedReply listReply wordsReply numbersReply shownText shownReply stretchOn
     stretchIn stretchText stretchReply writtenText writtenReply chunkAsked madeText madeReply parsedText parsedReply
@@ -149,8 +152,8 @@ unfolding numbered answerOf filledOf pairUp headerOf placeOf walkFrom countOf lo
     wordsShown numbersShown pairsShown entriesShown wordsAsked numbersAsked pairsAsked entriesAsked fieldsAsked
     timeAsked wordsBy numbersBy fieldsBy legal stepOf listedAt takenBy afterSteps listedBy stepsLeft advanceFault
     advanceOf stretchFilled recordOf numbersRow pairLow jobsFrom isHeaderJob isBlockJob jobsFault askedOf zerosBehind
-    blockBytes blocksBytes layoutOf misleadingFrom writeFault packetOf runOf bitsOf wordFor marksTakenBy wordsFrom badFrom
-    marksFault marksAsked decimalWithin hexesOf spacedAll refusedLine refusalLine fieldsLine timeLine listLine
+    blockBytes blocksBytes layoutOf misleadingFrom writeFault packetOf runOf bitsOf wordFor marksTakenBy wordsFrom
+    badFrom marksFault marksAsked decimalWithin hexesOf spacedAll refusedLine refusalLine fieldsLine timeLine listLine
     pairNumbers entryNumbers takenLine wordLine blocksLine viewLine packetLine readingText dumpText lineIn numbersText
     wordsText pairsText entriesText typedReply listReply wordsReply numbersReply shownText shownReply stretchOn
     stretchIn stretchText stretchReply writtenText writtenReply chunkAsked madeText madeReply parsedText parsedReply
@@ -174,8 +177,8 @@ unfolding numbered answerOf filledOf pairUp headerOf placeOf walkFrom countOf lo
     wordsShown numbersShown pairsShown entriesShown wordsAsked numbersAsked pairsAsked entriesAsked fieldsAsked
     timeAsked wordsBy numbersBy fieldsBy legal stepOf listedAt takenBy afterSteps listedBy stepsLeft advanceFault
     advanceOf stretchFilled recordOf numbersRow pairLow jobsFrom isHeaderJob isBlockJob jobsFault askedOf zerosBehind
-    blockBytes blocksBytes layoutOf misleadingFrom writeFault packetOf runOf bitsOf wordFor marksTakenBy wordsFrom badFrom
-    marksFault marksAsked decimalWithin hexesOf spacedAll refusedLine refusalLine fieldsLine timeLine listLine
+    blockBytes blocksBytes layoutOf misleadingFrom writeFault packetOf runOf bitsOf wordFor marksTakenBy wordsFrom
+    badFrom marksFault marksAsked decimalWithin hexesOf spacedAll refusedLine refusalLine fieldsLine timeLine listLine
     pairNumbers entryNumbers takenLine wordLine blocksLine viewLine packetLine readingText dumpText lineIn numbersText
     wordsText pairsText entriesText typedReply listReply wordsReply numbersReply shownText shownReply stretchOn
     stretchIn stretchText stretchReply writtenText writtenReply chunkAsked madeText madeReply parsedText parsedReply

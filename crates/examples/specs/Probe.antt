@@ -1,5 +1,5 @@
--- Facts of def_probe: what xrprobe answers to requests of each kind, shown and refused, and each way in which a request
--- is cut (README, "xrprobe"). The packets are written as `packet` writes them, numbers in a payload by `le4`.
+-- Facts of def_probe: what xrprobe answers to requests of each kind, shown and refused, and each way in which a
+-- request is cut (README, "xrprobe"). The packets are written as `packet` writes them, numbers in a payload by `le4`.
 use Prim.Native.Nat.{ℕ}
 use Prim.Native.String.{String}
 use mathlib.Core.Path.{_≡_}
@@ -140,7 +140,8 @@ pub record OfBlocks : Type 0 where
       × (answerTo 3 (asks 0 0 4 packet4) ≡ says ("refused 10 1 0" ∷ []))
       × (answerTo 3 (asks 0 0 5 clocked) ≡ says ("refused 10 4 0" ∷ []))
   pub parsed :
-      (answerTo 8 (0 ∷ packet4) ≡ says ("blocks 1 ssrc 1" ∷ [])) × (answerTo 8 (0 ∷ packet []) ≡ says ("blocks 0 ssrc 1" ∷ []))
+      (answerTo 8 (0 ∷ packet4) ≡ says ("blocks 1 ssrc 1" ∷ []))
+      × (answerTo 8 (0 ∷ packet []) ≡ says ("blocks 0 ssrc 1" ∷ []))
       × (answerTo 8 (1 ∷ packet []) ≡ says ("refused 1 12 8" ∷ []))
   -- the crate's view goes to the packet's end
   pub view :

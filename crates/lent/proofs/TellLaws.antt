@@ -1,5 +1,6 @@
--- What is printed of a call that listed into memory with the pattern in it: def_probe's line alone. The call's contract
--- says that what stands behind the items, and everything after a refusal, is untouched; so `spoilt` is never printed.
+-- What is printed of a call that listed into memory with the pattern in it: def_probe's line alone. The call's
+-- contract says that what stands behind the items, and everything after a refusal, is untouched; so `spoilt` is never
+-- printed.
 --     list-done .. stretch-stuck     what is printed, by the call's answer
 --     listed, listed-pairs, listed-entries, stretched     it is the line that def_probe defines
 use Prim.Native.Nat.{ℕ, min}
@@ -47,7 +48,8 @@ use Rattle.lent.proofs.PatternLaws.{stands-behind, length-pattern}
 
 -- what is printed, by the call's answer a
 module _ (mark : ℕ → ℕ) (line : List ℕ → List ℕ) (a : Answer) (l : List ℕ) (w : Bool) where
-  pub list-done : (n : ℕ) → a ≡ Done n → w ≡ wholeFrom mark n l → line (take n l) ++ unlessWhole w ≡ tellList mark line a l
+  pub list-done : (n : ℕ) → a ≡ Done n → w ≡ wholeFrom mark n l
+      → line (take n l) ++ unlessWhole w ≡ tellList mark line a l
   unfolding tellList
   list-done n e f = rw (e, f)
 
@@ -69,7 +71,8 @@ module _ (a : Answer) (ns ts : List ℕ) (w : Bool) where
 
 module _ (r : Answer) (a b c : List ℕ) (w : Bool) where
   pub entries-done : (n : ℕ) → r ≡ Done n → w ≡ wholeEntries n a b c
-      → listLine (ascii "entries") (threeInTurn (take n a) (take n b) (take n c)) ++ unlessWhole w ≡ tellEntries r a b c
+      → listLine (ascii "entries") (threeInTurn (take n a) (take n b) (take n c)) ++ unlessWhole w
+      ≡ tellEntries r a b c
   unfolding tellEntries
   entries-done n e f = rw (e, f)
 

@@ -1,5 +1,5 @@
--- What is printed of a call that listed into lent memory: its line, and `spoilt` where the pattern does not stand behind
--- the items, or does not stand at all after a refusal.
+-- What is printed of a call that listed into lent memory: its line, and `spoilt` where the pattern does not stand
+-- behind the items, or does not stand at all after a refusal.
 --     unlessWhole        the line `spoilt`
 --     tellList           of one list; tellPairs, tellEntries, of two and of three side by side
 --     tellStretch        of a stretch of the number cursor

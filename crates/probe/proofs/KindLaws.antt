@@ -150,8 +150,23 @@ module _ (kind : ℕ) (p : List ℕ) where
   unfolding answerTo
   kind-14 e = rw e
 
-  pub kind-other : (kind ≡ 1 → ⊥) → (kind ≡ 2 → ⊥) → (kind ≡ 3 → ⊥) → (kind ≡ 4 → ⊥) → (kind ≡ 5 → ⊥) → (kind ≡ 6 → ⊥) → (kind ≡ 7 → ⊥) → (kind ≡ 8 → ⊥) → (kind ≡ 9 → ⊥) → (kind ≡ 10 → ⊥) → (kind ≡ 11 → ⊥) → (kind ≡ 14 → ⊥)
+  pub kind-other : (kind ≡ 1 → ⊥) → (kind ≡ 2 → ⊥) → (kind ≡ 3 → ⊥) → (kind ≡ 4 → ⊥)
+      → (kind ≡ 5 → ⊥) → (kind ≡ 6 → ⊥) → (kind ≡ 7 → ⊥) → (kind ≡ 8 → ⊥) → (kind ≡ 9 → ⊥)
+      → (kind ≡ 10 → ⊥) → (kind ≡ 11 → ⊥) → (kind ≡ 14 → ⊥)
       → cut ≡ answerTo kind p
   unfolding answerTo
   kind-other a b d e f g h i j k l m =
-      rw (ne-eqb _ _ a, ne-eqb _ _ b, ne-eqb _ _ d, ne-eqb _ _ e, ne-eqb _ _ f, ne-eqb _ _ g, ne-eqb _ _ h, ne-eqb _ _ i, ne-eqb _ _ j, ne-eqb _ _ k, ne-eqb _ _ l, ne-eqb _ _ m)
+      rw (
+        ne-eqb _ _ a,
+        ne-eqb _ _ b,
+        ne-eqb _ _ d,
+        ne-eqb _ _ e,
+        ne-eqb _ _ f,
+        ne-eqb _ _ g,
+        ne-eqb _ _ h,
+        ne-eqb _ _ i,
+        ne-eqb _ _ j,
+        ne-eqb _ _ k,
+        ne-eqb _ _ l,
+        ne-eqb _ _ m,
+      )

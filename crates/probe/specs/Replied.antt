@@ -1,5 +1,5 @@
--- What a function that answers a request promises: that it has added exactly the reply's text, none where the request is
--- cut, and whether the request was served (private: the public function states both at once).
+-- What a function that answers a request promises: that it has added exactly the reply's text, none where the request
+-- is cut, and whether the request was served (private: the public function states both at once).
 use Prim.Native.Nat.{ℕ}
 use mathlib.Core.Path.{_≡_}
 use mathlib.Core.Bool.{Bool, false, cond}

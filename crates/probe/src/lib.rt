@@ -325,7 +325,8 @@ fn word_asked(p: &[u8], buf: &mut [u8], at: usize) -> Told
 
 // The answer to a request of a kind.
 pub fn answer(kind: u8, p: &[u8], buf: &mut [u8], at: usize) -> Told
-    ensures { λ r. ⌜ Added (now (buf .entry)) at (replyText (answerTo kind (now (p .entry)))) (now (buf .exit)) (r .at) ⌝ }
+    ensures { λ r. ⌜ Added (now (buf .entry)) at (replyText (answerTo kind (now (p .entry))))
+        (now (buf .exit)) (r .at) ⌝ }
     ensures { λ r. ⌜ r .served ≡ isTold (answerTo kind (now (p .entry))) ⌝ }
 {
     match kind {

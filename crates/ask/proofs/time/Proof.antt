@@ -8,15 +8,22 @@ use Rattle.ask.proofs.time.Tie as tie
 
 returns : tie.Need-returns
 returns c =
-    reads (ap timeTold (sym (c .before .before .before .before .before .t .given .1) ∙ c .before .before .before .before .before .before .before .time-in .ensures))
-    (c .before .before .time-line .ensures)
+    let c1 = c .before .before in
+    let c2 = c1 .before .before .before in
+    let c3 = c2 .before .before in
+    reads (ap timeTold (sym (c2 .t .given .1) ∙ c3 .time-in .ensures))
+    (c1 .time-line .ensures)
 
 returns-2 : tie.Need-returns-2
 returns-2 c =
-    reads (ap timeTold (sym (c .before .before .before .before .before .x .given .1) ∙ c .before .before .before .before .before .before .before .time-in .ensures))
-    (c .before .before .refusal-line .ensures)
+    let c1 = c .before .before in
+    let c2 = c1 .before .before .before in
+    let c3 = c2 .before .before in
+    reads (ap timeTold (sym (c2 .x .given .1) ∙ c3 .time-in .ensures))
+    (c1 .refusal-line .ensures)
 
 pub time-spec : {M : Type 1} → statement M
 time-spec =
     tie.close
-    (tie.spec (λ c κs. search needs) (λ c. search needs) (λ c κs. search needs) (λ c. search needs) (λ c κs. search needs) (λ c. search needs) returns (λ c. search needs) returns-2)
+    (tie.spec (λ c κs. search needs) (λ c. search needs) (λ c κs. search needs) (λ c. search needs)
+    (λ c κs. search needs) (λ c. search needs) returns (λ c. search needs) returns-2)

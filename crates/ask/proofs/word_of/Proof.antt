@@ -7,7 +7,12 @@ use Rattle.ask.proofs.word_of.Tie as tie
 
 returns : tie.Need-returns
 returns c =
-    reads (word-is (c .before .before .before .before .before .before .before .before .args .bytes .now) _ _ (c .before .before .before .before .byte-at .ensures) (c .before .before .before .byte-at2 .ensures)) (c .before .before .word-line .ensures)
+    let c1 = c .before .before in
+    let c2 = c1 .before in
+    let c3 = c2 .before in
+    let c4 = c3 .before .before .before .before in
+    reads (word-is (c4 .args .bytes .now) _ _ (c3 .byte-at .ensures) (c2 .byte-at2 .ensures))
+    (c1 .word-line .ensures)
 
 pub word-of-spec : {M : Type 1} → statement M
 word-of-spec =

@@ -9,10 +9,14 @@ use Rattle.ask_lists.proofs.made_into.Tie as tie
 
 returns : tie.Need-returns
 returns c =
-    reads (listed mark16 wordsLine _ (c .before .before .before .before .before .before .before .before .before .before .before .fill16 .ensures) (c .before .before .before .before .before .before .before .words .ensures))
-    (c .before .before .tell-words .ensures)
+    let c1 = c .before .before in
+    let c2 = c1 .before .before .before .before .before in
+    let c3 = c2 .before .before .before .before in
+    reads (listed mark16 wordsLine _ (c3 .fill16 .ensures) (c2 .words .ensures))
+    (c1 .tell-words .ensures)
 
 pub made-into-spec : {M : Type 1} → statement M
 made-into-spec =
     tie.close
-    (tie.spec (λ c κs. search needs) (λ c κs. search needs) (λ c κs. search needs) (λ c. search needs) (λ c. search needs) returns)
+    (tie.spec (λ c κs. search needs) (λ c κs. search needs) (λ c κs. search needs) (λ c. search needs)
+    (λ c. search needs) returns)

@@ -7,10 +7,14 @@ use Rattle.ask_lists.proofs.stretch_into.Tie as tie
 
 returns : tie.Need-returns
 returns c =
-    reads (stretched _ _ _ (c .before .before .before .before .before .before .before .before .before .before .before .fill16 .ensures) (c .before .before .before .before .before .before .before .advance .ensures))
-    (c .before .before .tell-stretch .ensures)
+    let c1 = c .before .before in
+    let c2 = c1 .before .before .before .before .before in
+    let c3 = c2 .before .before .before .before in
+    reads (stretched _ _ _ (c3 .fill16 .ensures) (c2 .advance .ensures))
+    (c1 .tell-stretch .ensures)
 
 pub stretch-into-spec : {M : Type 1} → statement M
 stretch-into-spec =
     tie.close
-    (tie.spec (λ c κs. search needs) (λ c κs. search needs) (λ c κs. search needs) (λ c. search needs) (λ c. search needs) returns)
+    (tie.spec (λ c κs. search needs) (λ c κs. search needs) (λ c κs. search needs) (λ c. search needs)
+    (λ c. search needs) returns)

@@ -1,4 +1,5 @@
--- `ask_lists::tell_stretch` meets its contract: the two lines of a stretch, or the refusal's, and `spoilt` unless the memory is whole.
+-- `ask_lists::tell_stretch` meets its contract: the two lines of a stretch, or the refusal's, and
+-- `spoilt` unless the memory is whole.
 use Rattle.print.proofs.AddedLaws.{and-then, reads}
 use Rattle.lent.proofs.TellLaws.{stretch-moved, stretch-stuck}
 use borrow.Author.Needs.{needs}
@@ -7,16 +8,27 @@ use Rattle.ask_lists.proofs.tell_stretch.Tie as tie
 
 returns : tie.Need-returns
 returns c =
-    reads (stretch-moved _ _ _ _ (c .before .before .before .before .before .before .before .before .before .before .before .before .before .before .before .a .given .1) (c .before .before .before .stands16 .ensures))
-    (and-then (and-then (c .before .before .before .before .before .before .before .before .before .before .before .taken-line .ensures) (c .before .before .before .before .before .before .before .numbers-line .ensures))
-    (c .before .before .said-whole .ensures))
+    let c1 = c .before .before in
+    let c2 = c1 .before in
+    let c3 = c2 .before .before .before .before in
+    let c4 = c3 .before .before .before .before in
+    let c5 = c4 .before .before .before .before in
+    reads (stretch-moved _ _ _ _ (c5 .a .given .1) (c2 .stands16 .ensures))
+    (and-then (and-then (c4 .taken-line .ensures) (c3 .numbers-line .ensures))
+    (c1 .said-whole .ensures))
 
 returns-2 : tie.Need-returns-2
 returns-2 c =
-    reads (stretch-stuck _ _ _ _ (c .before .before .before .before .before .before .before .before .before .before .a2 .given .1) (c .before .before .before .stands162 .ensures))
-    (and-then (c .before .before .before .before .before .before .before .refusal-line .ensures) (c .before .before .said-whole2 .ensures))
+    let c1 = c .before .before in
+    let c2 = c1 .before in
+    let c3 = c2 .before .before .before .before in
+    let c4 = c3 .before .before .before in
+    reads (stretch-stuck _ _ _ _ (c4 .a2 .given .1) (c2 .stands162 .ensures))
+    (and-then (c3 .refusal-line .ensures) (c1 .said-whole2 .ensures))
 
 pub tell-stretch-spec : {M : Type 1} → statement M
 tell-stretch-spec =
     tie.close
-    (tie.spec (λ c. search needs) (λ c κs. search needs) (λ c κs. search needs) (λ c κs. search needs) (λ c κs. search needs) (λ c. search needs) (λ c κs. search needs) (λ c κs. search needs) (λ c κs. search needs) (λ c. search needs) returns (λ c. search needs) returns-2)
+    (tie.spec (λ c. search needs) (λ c κs. search needs) (λ c κs. search needs) (λ c κs. search needs)
+    (λ c κs. search needs) (λ c. search needs) (λ c κs. search needs) (λ c κs. search needs) (λ c κs. search needs)
+    (λ c. search needs) returns (λ c. search needs) returns-2)

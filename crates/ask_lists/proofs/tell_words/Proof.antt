@@ -1,4 +1,5 @@
--- `ask_lists::tell_words` meets its contract: the line of words, or the refusal's, and `spoilt` unless the memory is whole.
+-- `ask_lists::tell_words` meets its contract: the line of words, or the refusal's, and
+-- `spoilt` unless the memory is whole.
 use Rattle.print.proofs.AddedLaws.{and-then, reads}
 use Rattle.lent.specs.Pattern.{mark16}
 use Rattle.def_dump.specs.Lines.{wordsLine}
@@ -9,17 +10,27 @@ use Rattle.ask_lists.proofs.tell_words.Tie as tie
 
 returns : tie.Need-returns
 returns c =
-    let s = c .before .before .before in
-    reads (list-done mark16 wordsLine _ _ _ _ (c .before .before .before .before .before .before .before .before .before .before .a .given .1) (s .stands16 .ensures))
-    (and-then (c .before .before .before .before .before .before .before .words-line .ensures) (c .before .before .said-whole .ensures))
+    let c1 = c .before .before in
+    let c2 = c1 .before in
+    let c3 = c2 .before .before .before .before in
+    let c4 = c3 .before .before .before in
+    let s = c2 in
+    reads (list-done mark16 wordsLine _ _ _ _ (c4 .a .given .1) (s .stands16 .ensures))
+    (and-then (c3 .words-line .ensures) (c1 .said-whole .ensures))
 
 returns-2 : tie.Need-returns-2
 returns-2 c =
-    let s = c .before .before .before in
-    reads (list-refused mark16 wordsLine _ _ _ _ (c .before .before .before .before .before .before .before .before .before .before .a2 .given .1) (s .stands162 .ensures))
-    (and-then (c .before .before .before .before .before .before .before .refusal-line .ensures) (c .before .before .said-whole2 .ensures))
+    let c1 = c .before .before in
+    let c2 = c1 .before in
+    let c3 = c2 .before .before .before .before in
+    let c4 = c3 .before .before .before in
+    let s = c2 in
+    reads (list-refused mark16 wordsLine _ _ _ _ (c4 .a2 .given .1) (s .stands162 .ensures))
+    (and-then (c3 .refusal-line .ensures) (c1 .said-whole2 .ensures))
 
 pub tell-words-spec : {M : Type 1} → statement M
 tell-words-spec =
     tie.close
-    (tie.spec (λ c. search needs) (λ c κs. search needs) (λ c κs. search needs) (λ c κs. search needs) (λ c. search needs) (λ c κs. search needs) (λ c κs. search needs) (λ c κs. search needs) (λ c. search needs) returns (λ c. search needs) returns-2)
+    (tie.spec (λ c. search needs) (λ c κs. search needs) (λ c κs. search needs) (λ c κs. search needs)
+    (λ c. search needs) (λ c κs. search needs) (λ c κs. search needs) (λ c κs. search needs) (λ c. search needs)
+    returns (λ c. search needs) returns-2)

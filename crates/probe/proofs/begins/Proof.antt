@@ -7,11 +7,13 @@ use Rattle.probe.proofs.begins.Tie as tie
 
 returns : tie.Need-returns
 returns c =
-    begins-short _ (c .before .before .args .p .now) (omega arith)
+    let c1 = c .before .before in
+    begins-short _ (c1 .args .p .now) (omega arith)
 
 returns-2 : tie.Need-returns-2
 returns-2 c =
-    begins-byte _ (c .before .before .before .args .p .now) _ (omega arith) (c .byte-at .ensures)
+    let c1 = c .before .before .before in
+    begins-byte _ (c1 .args .p .now) _ (omega arith) (c .byte-at .ensures)
 
 pub begins-spec : {M : Type 1} → statement M
 begins-spec =

@@ -7,7 +7,8 @@ use Rattle.probe.proofs.behind.Tie as tie
 
 returns : tie.Need-returns
 returns c =
-    c .part .ensures .0 ∙ all-behind (c .before .before .args .p .now) (c .before .before .args .at)
+    let c1 = c .before .before in
+    c .part .ensures .0 ∙ all-behind (c1 .args .p .now) (c1 .args .at)
 
 pub behind-spec : {M : Type 1} → statement M
 behind-spec =

@@ -18,7 +18,8 @@ returns-3 c =
 
 returns-4 : tie.Need-returns-4
 returns-4 c =
-    chunk-vector _ _ (c .before .before .if1 .left) (c .before .if2 .left) (c .if3 .left)
+    let c1 = c .before .before in
+    chunk-vector _ _ (c1 .if1 .left) (c .before .if2 .left) (c .if3 .left)
 
 pub chunk-asked-spec : {M : Type 1} → statement M
 chunk-asked-spec =

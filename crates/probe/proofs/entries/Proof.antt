@@ -7,14 +7,20 @@ use Rattle.probe.proofs.entries.Tie as tie
 returns : tie.Need-returns
 unfolding entriesText
 returns c =
+    let c1 = c .before .before in
+    let c2 = c1 .before .before in
+    let c3 = c2 .before in
+    let c4 = c3 .before in
+    let c5 = c4 .before in
     rw (
-      c .before .before .before .before .before .before .before .reading .ensures,
-      c .before .before .before .before .before .before .behind .ensures,
-      c .before .before .before .before .before .number .ensures,
-      c .before .before .before .before .number2 .ensures,
-    ) at (c .before .before .entries .ensures)
+      c5 .reading .ensures,
+      c4 .behind .ensures,
+      c3 .number .ensures,
+      c2 .number2 .ensures,
+    ) at (c1 .entries .ensures)
 
 pub entries-spec : {M : Type 1} → statement M
 entries-spec =
     tie.close
-    (tie.spec (λ c κs. search needs) (λ c κs. search needs) (λ c κs. search needs) (λ c κs. search needs) (λ c κs. search needs) (λ c. search needs) returns)
+    (tie.spec (λ c κs. search needs) (λ c κs. search needs) (λ c κs. search needs) (λ c κs. search needs)
+    (λ c κs. search needs) (λ c. search needs) returns)

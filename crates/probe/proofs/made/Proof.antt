@@ -7,14 +7,20 @@ use Rattle.probe.proofs.made.Tie as tie
 returns : tie.Need-returns
 unfolding madeText
 returns c =
+    let c1 = c .before .before in
+    let c2 = c1 .before .before in
+    let c3 = c2 .before in
+    let c4 = c3 .before in
+    let c5 = c4 .before in
     rw (
-      c .before .before .before .before .before .chunk-asked .ensures,
-      c .before .before .before .before .before .before .before .byte-at .ensures,
-      c .before .before .before .before .before .before .u32-from-le-bytes .ensures,
-      c .before .before .before .before .number .ensures,
-    ) at (c .before .before .made .ensures)
+      c3 .chunk-asked .ensures,
+      c5 .byte-at .ensures,
+      c4 .u32-from-le-bytes .ensures,
+      c2 .number .ensures,
+    ) at (c1 .made .ensures)
 
 pub made-spec : {M : Type 1} → statement M
 made-spec =
     tie.close
-    (tie.spec (λ c κs. search needs) (λ c κs. search needs) (λ c κs. search needs) (λ c κs. search needs) (λ c κs. search needs) (λ c. search needs) returns)
+    (tie.spec (λ c κs. search needs) (λ c κs. search needs) (λ c κs. search needs) (λ c κs. search needs)
+    (λ c κs. search needs) (λ c. search needs) returns)

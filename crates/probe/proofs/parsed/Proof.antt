@@ -7,10 +7,13 @@ use Rattle.probe.proofs.parsed.Tie as tie
 returns : tie.Need-returns
 unfolding parsedText
 returns c =
+    let c1 = c .before .before in
+    let c2 = c1 .before .before in
+    let c3 = c2 .before in
     rw (
-      c .before .before .before .before .before .reading .ensures,
-      c .before .before .before .before .behind .ensures,
-    ) at (c .before .before .parsed .ensures)
+      c3 .reading .ensures,
+      c2 .behind .ensures,
+    ) at (c1 .parsed .ensures)
 
 pub parsed-spec : {M : Type 1} → statement M
 parsed-spec =

@@ -6,11 +6,13 @@ use Rattle.probe.proofs.reading.Tie as tie
 
 returns : tie.Need-returns
 returns c =
-    reading-standard (c .before .before .before .args .p .now) _ (c .before .byte-at .ensures) (c .if1 .taken)
+    let c1 = c .before .before .before in
+    reading-standard (c1 .args .p .now) _ (c .before .byte-at .ensures) (c .if1 .taken)
 
 returns-2 : tie.Need-returns-2
 returns-2 c =
-    reading-crate (c .before .before .before .args .p .now) _ (c .before .byte-at .ensures) (c .if1 .left)
+    let c1 = c .before .before .before in
+    reading-crate (c1 .args .p .now) _ (c .before .byte-at .ensures) (c .if1 .left)
 
 pub reading-spec : {M : Type 1} → statement M
 reading-spec =

@@ -9,17 +9,25 @@ use Rattle.probe.proofs.shown_asked.Tie as tie
 returns : tie.Need-returns
 unfolding shownReply
 returns c =
-    let p = c .before .before .before .before .before .before .before .before .before .args .p .now in
-    replies (begun 6 p (told (shownText p)) (sym (c .before .before .before .before .before .before .begins .ensures) ∙ c .before .before .before .before .before .if1 .taken))
-    (is-told (c .before .before .before .shown .ensures) (c .served .ensures))
+    let c1 = c .before .before .before in
+    let c2 = c1 .before .before in
+    let c3 = c2 .before in
+    let c4 = c3 .before .before .before in
+    let p = c4 .args .p .now in
+    replies (begun 6 p (told (shownText p)) (sym (c3 .begins .ensures) ∙ c2 .if1 .taken))
+    (is-told (c1 .shown .ensures) (c .served .ensures))
 
 returns-2 : tie.Need-returns-2
 unfolding shownReply
 returns-2 c =
-    let p = c .before .before .before .before .before .args .p .now in
-    replies (not-begun 6 p (told (shownText p)) (sym (c .before .before .begins .ensures) ∙ c .before .if1 .left)) (is-cut (c .cut .ensures))
+    let c1 = c .before .before in
+    let c2 = c1 .before .before .before in
+    let p = c2 .args .p .now in
+    replies (not-begun 6 p (told (shownText p)) (sym (c1 .begins .ensures) ∙ c .before .if1 .left))
+    (is-cut (c .cut .ensures))
 
 pub shown-asked-spec : {M : Type 1} → statement M
 shown-asked-spec =
     tie.close
-    (tie.spec (λ c κs. search needs) (λ c κs. search needs) (λ c κs. search needs) (λ c. search needs) returns (λ c κs. search needs) returns-2)
+    (tie.spec (λ c κs. search needs) (λ c κs. search needs) (λ c κs. search needs) (λ c. search needs) returns
+    (λ c κs. search needs) returns-2)
