@@ -84,12 +84,12 @@ module _ {whole : Or (List ℕ)} {out out′ : List ℕ} {r : Answer} where
       → refusedLine x ≡ listOr numbersLine whole
   numbers-not-shown {x} e d h = refused-of numbersLine whole x (sym e ∙ d .answer ∙ ap (answerOf whole) h)
 
-two-parts : (l : List Receipt) → twoInTurn (map (λ x. x .number) l) (map (λ x. x .time .0) l) ≡ pairNumbers l
+pub two-parts : (l : List Receipt) → twoInTurn (map (λ x. x .number) l) (map (λ x. x .time .0) l) ≡ pairNumbers l
 unfolding twoInTurn pairNumbers
 two-parts [] = refl
 two-parts (x ∷ l) = ap (λ (m : List ℕ). x .number ∷ x .time .0 ∷ m) (two-parts l)
 
-three-parts : (l : List Echo)
+pub three-parts : (l : List Echo)
     → threeInTurn (map (λ x. x .ssrc) l) (map (λ x. x .last .0) l) (map (λ x. x .delay .0) l) ≡ entryNumbers l
 unfolding threeInTurn entryNumbers
 three-parts [] = refl

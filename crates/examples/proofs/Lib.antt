@@ -19,3 +19,4 @@ pub mod JobsLargest
 pub mod Marks
 pub mod Text
 pub mod Dump
+pub mod Probe

@@ -1,19 +1,11 @@
 // Opens the public functions to a test from outside. Standard input is a run of requests, each one byte of kind, four
 // bytes of length (little-endian, at most 300,000) and the payload; each answer is text lines and then a line with a
-// single `.`. README.md, "xrprobe", lists the kinds. Memory is lent with a pattern in it, and a line `spoilt` is
-// added where anything behind the stored items, or anything at all after a refusal, has changed.
-mod ask;
-mod lent;
-
-ghost use Prim.Native.Nat.{_≤_};
-ghost use lib.ListN.{length};
+// single `.`. README.md, "xrprobe", lists the kinds; what each is answered is def_probe's `answerTo`, which `probe` is
+// proved to add to the buffer.
 use libc::STDIN_FILENO;
 
 // The longest payload.
 const LONGEST: usize = 300000;
-
-// The most room that is lent to a list.
-const SHOWN: usize = 16384;
 
 // What a request comes to: what waits in the buffer, and whether the run goes on.
 struct Turn {
@@ -43,7 +35,7 @@ fn cut(buf: &mut [u8], at: usize) -> Turn {
 }
 
 // One request from standard input.
-fn one_request(request: &mut [u8], buf: &mut [u8], at: usize, list: &mut [u16]) -> Turn {
+fn one_request(request: &mut [u8], buf: &mut [u8], at: usize) -> Turn {
     let mut head = [0u8; 5];
     let got = io::read_full(STDIN_FILENO, &mut head);
     if got == 0 {
@@ -52,7 +44,7 @@ fn one_request(request: &mut [u8], buf: &mut [u8], at: usize, list: &mut [u16]) 
     if got < 5 {
         return cut(buf, at);
     }
-    let long = ask::length_of(head);
+    let long = little_endian::u32_from_le_bytes(&head, 1) as usize;
     if LONGEST < long {
         return cut(buf, at);
     }
@@ -63,23 +55,22 @@ fn one_request(request: &mut [u8], buf: &mut [u8], at: usize, list: &mut [u16]) 
     if read < long {
         return cut(buf, at);
     }
-    let told = ask::answer(head[0], &request[0..long], buf, at, list);
+    let told = probe::answer(head[0], &request[0..long], buf, at);
     answered(buf, told)
 }
 
 fn main() {
     let mut request = [0u8; LONGEST];
     let mut buf = [0u8; 65536];
-    let mut list = [0u16; SHOWN];
-    run(&mut request, &mut buf, &mut list);
+    run(&mut request, &mut buf);
 }
 
 // As many requests as come.
-fn run(request: &mut [u8], buf: &mut [u8], list: &mut [u16]) {
+fn run(request: &mut [u8], buf: &mut [u8]) {
     let mut left: u64 = 18446744073709551615;
     let mut at: usize = 0;
     while 0 < left {
-        let t = one_request(request, buf, at, list);
+        let t = one_request(request, buf, at);
         at = t.at;
         if !t.fine {
             print::flush(buf, at);

@@ -6,16 +6,15 @@ use Rattle.xrprobe.proofs.run.Statement.{statement}
 use Rattle.xrprobe.proofs.run.Tie as tie
 
 abbrev Inv-loop : tie.InvT-loop
-Inv-loop request₀ buf₀ list₀ left₀ at₀ request buf list left at =
-    (length request ≡ length request₀) × (length buf ≡ length buf₀) × (length list ≡ length list₀)
+Inv-loop request₀ buf₀ left₀ at₀ request buf left at =
+    (length request ≡ length request₀) × (length buf ≡ length buf₀)
 
 abbrev μ-loop : tie.MeasureT-loop
-μ-loop request₀ buf₀ list₀ left₀ at₀ request buf list left at = left
+μ-loop request₀ buf₀ left₀ at₀ request buf left at = left
 
 pub run-spec : {M : Type 1} → statement M
 run-spec =
     tie.close
     (tie.spec Inv-loop μ-loop (λ c. search needs) (λ c κs. search needs) (λ c κs. search needs) (λ c. search needs)
     (λ c. search needs) (λ c. search needs) (λ c. search needs) (λ c. search needs) (λ c. search needs)
-    (λ c. search needs) (λ c κs. search needs) (λ c. search needs) (λ c. search needs) (λ c. search needs)
-    (λ c. search needs))
+    (λ c κs. search needs) (λ c. search needs) (λ c. search needs) (λ c. search needs))

@@ -1,0 +1,3 @@
+-- AskLaws (each way in which a question ends), Unique (no second answer).
+pub mod AskLaws
+pub mod Unique

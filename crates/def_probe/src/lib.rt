@@ -1,0 +1,1 @@
+// What xrprobe answers to a request, as text (README, "xrprobe"). Definitions only: see specs/.

@@ -1,0 +1,2 @@
+-- Replied: what a function that answers a request promises (private).
+pub mod Replied
