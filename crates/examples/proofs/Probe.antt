@@ -91,9 +91,10 @@ of-lists-hold =
     record {
       numbers = (refl, refl, refl, refl);
       numbers-refused = (refl, refl, refl, refl);
-      pairs = (refl, refl, refl);
-      entries = (refl, refl, refl);
-      types-not-served = (refl, refl, refl, refl, refl);
+      pairs = (refl, refl, refl, refl);
+      pairs-by-reading = (refl, refl);
+      entries = (refl, refl, refl, refl, refl, refl);
+      types-not-served = (refl, refl, refl, refl, refl, refl);
       words = (refl, refl, refl, refl);
       of-any-type = (refl, refl);
       cut-lists = (refl, refl, refl);
@@ -116,8 +117,8 @@ unfolding numbered answerOf filledOf pairUp headerOf placeOf walkFrom countOf lo
     marksText marksReply viewText viewReply answerTo
 of-blocks-hold =
     record {
-      fields = (refl, refl, refl);
-      time = (refl, refl, refl);
+      fields = (refl, refl, refl, refl, refl);
+      time = (refl, refl, refl, refl, refl, refl);
       parsed = (refl, refl, refl);
       view = (refl, refl, refl, refl);
       cut-shown = (refl, refl, refl);
@@ -141,6 +142,7 @@ unfolding numbered answerOf filledOf pairUp headerOf placeOf walkFrom countOf lo
 of-stretches-hold =
     record {
       a-stretch = (refl, refl);
+      steps-and-numbers = refl;
       refused-stretches = (refl, refl, refl, refl, refl);
       cut-stretch = (refl, refl);
     }

@@ -54,6 +54,10 @@ doubled = packet (0x02000003 ∷ 7 ∷ 0x000a000e ∷ 0x40024002 ∷ [])
 abbrev pub second : List ℕ
 second = packet (0x63000000 ∷ 0x01000003 ∷ 7 ∷ 0x000a000e ∷ 0x40024002 ∷ [])
 
+-- one receipt time, and a clock behind it
+abbrev pub two-blocks : List ℕ
+two-blocks = packet (0x03000003 ∷ 7 ∷ 0x00050009 ∷ 100 ∷ 0x04000002 ∷ 1 ∷ 2 ∷ [])
+
 -- the job list of a report on 10 to 13
 abbrev pub reported : List ℕ
 reported = header 0 ++ report 1 10 14 0 (16386 ∷ 16386 ∷ [])
@@ -97,16 +101,25 @@ pub record OfLists : Type 0 where
       (answerTo 2 (lists 0 0 3 2 times) ≡ says ("pairs 5 100 6 200" ∷ []))
       × (answerTo 2 (lists 0 0 3 1 times) ≡ says ("refused 11 2 1" ∷ []))
       × (answerTo 2 (lists 1 0 3 9 packet4) ≡ says ("refused 10 1 0" ∷ []))
+      × (answerTo 2 (lists 0 1 3 9 times) ≡ says ("refused 9 1 0" ∷ []))
+  -- the crate reads on into the next block
+  pub pairs-by-reading :
+      (answerTo 2 (lists 0 0 3 9 two-blocks) ≡ says ("pairs 5 100" ∷ []))
+      × (answerTo 2 (lists 1 0 3 9 two-blocks) ≡ says ("pairs 5 100 6 67108866 7 1 8 2" ∷ []))
   pub entries :
       (answerTo 2 (lists 0 0 5 1 echoed) ≡ says ("entries 10 11 12" ∷ []))
       × (answerTo 2 (lists 0 0 5 0 echoed) ≡ says ("refused 11 1 0" ∷ []))
       × (answerTo 2 (lists 0 0 5 9 packet4) ≡ says ("refused 10 1 0" ∷ []))
+      × (answerTo 2 (lists 0 1 5 9 echoed) ≡ says ("refused 9 1 0" ∷ []))
+      × (answerTo 2 (lists 0 0 5 9 (packet [])) ≡ says ("refused 9 0 0" ∷ []))
+      × (answerTo 2 (lists 1 0 5 9 (packet [])) ≡ says ("refused 1 12 8" ∷ []))
   -- types that kind 2 does not serve, which 9 and 14 answer
   pub types-not-served :
       (answerTo 2 (lists 0 0 0 9 packet4) ≡ cut) × (answerTo 2 (lists 0 0 4 9 packet4) ≡ cut)
       × (answerTo 2 (lists 0 0 6 9 packet4) ≡ cut)
       × (answerTo 9 (lists 0 0 4 9 packet4) ≡ says ("refused 10 1 0" ∷ []))
-      × (answerTo 14 (lists 0 0 3 9 packet4) ≡ says ("refused 10 1 0" ∷ []))
+      × (answerTo 14 (lists 0 0 4 9 packet4) ≡ says ("refused 10 1 0" ∷ []))
+      × (answerTo 14 (lists 0 0 3 9 times) ≡ says ("refused 10 3 0" ∷ []))
   pub words :
       (answerTo 9 (lists 0 0 1 2 packet4) ≡ says ("words 16386 16386" ∷ []))
       × (answerTo 9 (lists 0 0 1 1 packet4) ≡ says ("refused 11 2 1" ∷ []))
@@ -135,10 +148,15 @@ pub record OfBlocks : Type 0 where
       (answerTo 3 (asks 0 0 1 packet4) ≡ says ("ssrc 7 begin 10 end 14 thinning 0" ∷ []))
       × (answerTo 3 (asks 0 0 2 packet4) ≡ says ("refused 10 1 0" ∷ []))
       × (answerTo 3 (asks 1 1 1 packet4) ≡ says ("refused 9 1 0" ∷ []))
+      × (answerTo 3 (asks 0 0 1 (packet [])) ≡ says ("refused 9 0 0" ∷ []))
+      × (answerTo 3 (asks 1 0 1 (packet [])) ≡ says ("refused 1 12 8" ∷ []))
   pub time :
       (answerTo 3 (asks 0 0 4 clocked) ≡ says ("time 4294967298" ∷ []))
       × (answerTo 3 (asks 0 0 4 packet4) ≡ says ("refused 10 1 0" ∷ []))
       × (answerTo 3 (asks 0 0 5 clocked) ≡ says ("refused 10 4 0" ∷ []))
+      × (answerTo 3 (asks 0 1 4 clocked) ≡ says ("refused 9 1 0" ∷ []))
+      × (answerTo 3 (asks 0 0 4 (packet [])) ≡ says ("refused 9 0 0" ∷ []))
+      × (answerTo 3 (asks 1 0 4 (packet [])) ≡ says ("refused 1 12 8" ∷ []))
   pub parsed :
       (answerTo 8 (0 ∷ packet4) ≡ says ("blocks 1 ssrc 1" ∷ []))
       × (answerTo 8 (0 ∷ packet []) ≡ says ("blocks 0 ssrc 1" ∷ []))
@@ -164,6 +182,10 @@ pub record OfStretches : Type 0 where
       (answerTo 4 (steps 0 1 0 1 1 2 2 packet4) ≡ says ("taken 2 word 1 place 1 position 3" ∷ "numbers 11 12" ∷ []))
       × (answerTo 4 (steps 1 1 0 0 0 9 9 second)
       ≡ says ("taken 4 word 2 place 0 position 4" ∷ "numbers 10 11 12 13" ∷ []))
+  -- more steps than numbers: two places of value zero first
+  pub steps-and-numbers :
+      answerTo 4 (steps 0 1 0 0 0 3 3 (packet (0x01000003 ∷ 7 ∷ 0x000a000e ∷ 0x00024002 ∷ [])))
+      ≡ says ("taken 3 word 1 place 1 position 3" ∷ "numbers 12" ∷ [])
   -- by the budget, by the place, by the asked type, by the block
   pub refused-stretches :
       (answerTo 4 (steps 0 1 0 1 1 2 1 packet4) ≡ says ("refused 11 2 1" ∷ []))
