@@ -1,6 +1,6 @@
 -- Each way in which a question ends: what its line is.
 use Prim.Native.Nat.{ℕ}
-use mathlib.Core.Path.{_≡_, refl, sym, ap, _∙_}
+use mathlib.Core.Path.{_≡_, sym, ap, _∙_}
 use mathlib.Core.List.{List}
 use native.Mathlib.Omega.{arith}
 use Rattle.def_refusals.specs.declared.Refusal.{Refusal}

@@ -3,7 +3,6 @@
 // are made in memory of so much room, lent with a pattern in it. Each function promises that it has added exactly
 // def_probe's line.
 ghost use Prim.Native.Nat.{min};
-ghost use mathlib.Core.Path.{_≡_};
 ghost use lib.ListN.{length};
 ghost use Rattle.def_refusals.specs.Answers.{Listed};
 ghost use Rattle.def_wire.specs.Packet.{countOf, locate};

@@ -6,7 +6,6 @@ ghost use Prim.Native.Nat.{min};
 ghost use mathlib.Core.Path.{_≡_};
 ghost use mathlib.Core.Bool.{cond, false};
 ghost use lib.ListN.{length};
-ghost use Rattle.def_questions.specs.Questions.{least3};
 ghost use Rattle.def_questions.specs.Packets.{pairsAsked, entriesAsked};
 ghost use Rattle.def_questions.specs.ByNumber.{numbersBy, wordsBy};
 ghost use Rattle.def_marks.specs.Marks.{marksAsked};

@@ -4,23 +4,21 @@
 --     list-done .. stretch-stuck     what is printed, by the call's answer
 --     listed, listed-pairs, listed-entries, stretched     it is the line that def_probe defines
 use Prim.Native.Nat.{ℕ, min}
-use mathlib.Core.Path.{_≡_, refl, sym, ap, _∙_}
-use mathlib.Core.Bool.{Bool, true, false, cond}
-use mathlib.Core.List.{List, [], _∷_, _++_, map, append-nil}
+use mathlib.Core.Path.{_≡_, refl, ap, _∙_}
+use mathlib.Core.Bool.{Bool, true, false}
+use mathlib.Core.List.{List, _++_, map, append-nil}
 use native.Mathlib.Omega.{arith}
 use lib.ListN.{length, take, drop, length-map}
-use lib.Seq.{take-append-seam, drop-append-seam, take-at, drop-at}
+use lib.Seq.{take-append-seam, take-at, drop-at}
 use lib.Dec.{leb}
 use Rattle.laws.proofs.Tests.{either}
 use Rattle.def_refusals.specs.declared.Refusal.{Refusal}
-use Rattle.def_refusals.specs.declared.Refusal.the-variants.{NoRoom}
 use Rattle.def_refusals.specs.declared.Answer.{Answer}
 use Rattle.def_refusals.specs.declared.Answer.the-variants.{Done, Refused}
 use Rattle.def_refusals.specs.declared.Checked.{Checked}
 use Rattle.def_refusals.specs.declared.Checked.the-variants.{Fine, Unfit}
 use Rattle.def_refusals.specs.Answers.{Or, shown, refused, each, answerOf, filledOf, Listed}
 use Rattle.def_wire.specs.declared.Reading.the-variants.{Standard}
-use Rattle.def_wire.specs.declared.Rle.{Rle}
 use Rattle.def_wire.specs.declared.RleOr.{RleOr}
 use Rattle.def_wire.specs.declared.RleOr.the-variants.{AnRle, NoRle}
 use Rattle.def_wire.specs.Packet.{viewOf}

@@ -9,7 +9,6 @@ use mathlib.Core.List.{List, [], _++_}
 use lib.ListN.{take, drop}
 use Rattle.def_refusals.specs.declared.Answer.{Answer}
 use Rattle.def_refusals.specs.declared.Answer.the-variants.{Done, Refused}
-use Rattle.def_cursor.specs.declared.Stretch.{Stretch}
 use Rattle.def_cursor.specs.declared.Advanced.{Advanced}
 use Rattle.def_cursor.specs.declared.Advanced.the-variants.{Moved, Stuck}
 use Rattle.def_text.specs.Numerals.{ascii, twoInTurn, threeInTurn}

@@ -3,10 +3,9 @@
 --     shown-time .. word-long              what is told of kinds 3, 2 and 7, and when these are cut
 --     kind-1 .. kind-other                 the reply of each kind
 use Prim.Native.Nat.{ℕ, _≤_, _<_}
-use mathlib.Core.Path.{_≡_, refl, sym, ap, _∙_}
+use mathlib.Core.Path.{_≡_, sym, _∙_}
 use mathlib.Core.Bool.{true}
 use mathlib.Core.List.{List}
-use native.Mathlib.Omega.{arith}
 use lib.ListN.{length, drop}
 use borrow.Author.Tests.{eq-eqb, ne-eqb, le-leb, lt-leb}
 use Rattle.def_wire.specs.declared.Reading.{Reading}

@@ -1,7 +1,6 @@
 -- `ask_lists::entries_into` meets its contract: entries into three lent lists of equal room.
-use mathlib.Core.Path.{_≡_, refl, sym, ap, _∙_}
+use mathlib.Core.Path.{ap, _∙_}
 use Rattle.print.proofs.AddedLaws.{reads}
-use lib.ListN.{length}
 use Rattle.lent.specs.Pattern.{mark32, pattern}
 use Rattle.lent.proofs.TellLaws.{listed-entries}
 use borrow.Author.Needs.{needs}

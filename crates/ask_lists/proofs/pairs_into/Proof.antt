@@ -1,7 +1,6 @@
 -- `ask_lists::pairs_into` meets its contract: pairs into two lent lists of equal room.
-use mathlib.Core.Path.{_≡_, refl, sym, ap, _∙_}
+use mathlib.Core.Path.{ap, _∙_}
 use Rattle.print.proofs.AddedLaws.{reads}
-use lib.ListN.{length}
 use Rattle.lent.specs.Pattern.{mark32, pattern}
 use Rattle.lent.proofs.TellLaws.{listed-pairs}
 use borrow.Author.Needs.{needs}

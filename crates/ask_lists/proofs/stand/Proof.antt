@@ -1,5 +1,4 @@
 -- `ask_lists::stand` meets its contract: whether three lists stand from an index on.
-use mathlib.Core.Path.{_≡_, refl, sym, ap, _∙_}
 use borrow.Author.Needs.{needs}
 use Rattle.ask_lists.proofs.stand.Statement.{statement}
 use Rattle.ask_lists.proofs.stand.Tie as tie

@@ -1,5 +1,5 @@
 -- `lent::said_whole` meets its contract: a line `spoilt`, unless the memory is whole.
-use mathlib.Core.Path.{_≡_, refl, sym, ap, _∙_}
+use mathlib.Core.Path.{sym, ap}
 use borrow.Author.Needs.{needs}
 use Rattle.lent.specs.Telling.{unlessWhole}
 use Rattle.print.proofs.AddedLaws.{nothing, reads}

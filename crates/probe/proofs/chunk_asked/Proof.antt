@@ -1,6 +1,5 @@
 -- `probe::chunk_asked` meets its contract: the kind of a chunk word by a number.
 use Rattle.probe.proofs.KindLaws.{chunk-null, chunk-skip, chunk-run, chunk-vector}
-use borrow.Author.Needs.{needs}
 use Rattle.probe.proofs.chunk_asked.Statement.{statement}
 use Rattle.probe.proofs.chunk_asked.Tie as tie
 

@@ -1,7 +1,7 @@
 -- `probe::listed` meets its contract: kind 2: numbers, pairs or entries, or `cut`.
 use mathlib.Core.Path.{sym, _∙_}
 use Rattle.def_probe.specs.Requests.{listReply, typedReply}
-use Rattle.probe.proofs.ReplyLaws.{replies, is-cut, begun, not-begun}
+use Rattle.probe.proofs.ReplyLaws.{replies, is-cut, not-begun}
 use Rattle.probe.proofs.KindLaws.{list-begun}
 use Rattle.def_wire.specs.Bytes.{byteAt}
 use borrow.Author.Needs.{needs}

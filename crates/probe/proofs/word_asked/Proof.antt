@@ -1,5 +1,4 @@
 -- `probe::word_asked` meets its contract: kind 7: a chunk word, or `cut`.
-use native.Mathlib.Omega.{arith}
 use Rattle.probe.proofs.ReplyLaws.{replies, is-told, is-cut}
 use Rattle.probe.proofs.KindLaws.{word-made, word-over, word-long}
 use borrow.Author.Needs.{needs}
