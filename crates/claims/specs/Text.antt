@@ -1,11 +1,12 @@
 -- The text that is printed (RULES, "Text through a lent buffer").
 --     TextReachesOut     whatever buffer a text goes through, what was written out on the way and what waits then are,
 --                        together, what waited before and the text
---     TextIsHeld         a buffer that has room for the text holds it, behind what waited, and nothing else has changed
+--     TextIsHeld         a buffer that has room for the text holds it, behind what waited; nothing else has changed
 --     TextEndsAt         where the place stands then
 --     DecimalReads       a number's digits have its value, are digits, and begin with a zero for 0 alone
--- Nothing is asked of a call but its contract, `Added`: so of every function of print, lines and dump. With `dump`'s,
--- that adds `dumpText` of the packet, nothing of what `xrdump` prints is left open but that what is written out arrives.
+-- Nothing is asked of a call but its contract, `Added`: so of every function of print, lines, dump and probe. With
+-- `dump`'s, that adds `dumpText` of the packet, nothing of what `xrdump` prints is left open but that what is written
+-- out arrives.
 use Prim.Native.Nat.{ℕ, _+_, _*_, _-_, _%_, _≤_, _<_}
 use mathlib.Core.Path.{_≡_}
 use mathlib.Core.List.{List, [], _∷_, _++_}

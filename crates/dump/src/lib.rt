@@ -145,8 +145,8 @@ fn contents(r: Reading, k: Kind, v: &[u8], buf: &mut [u8], at: usize) -> usize
 
 // The same, or one `refused 7`.
 fn contents_or(r: Reading, k: Kind, v: &[u8], buf: &mut [u8], at: usize) -> usize
-    ensures { λ n. ⌜ Added (now (buf .entry)) at (unlessUnfit (checkOf r k (now (v .entry))) (contentsOf r k (now (v .entry))))
-        (now (buf .exit)) n ⌝ }
+    ensures { λ n. ⌜ Added (now (buf .entry)) at
+        (unlessUnfit (checkOf r k (now (v .entry))) (contentsOf r k (now (v .entry)))) (now (buf .exit)) n ⌝ }
 {
     match block::check(r, k, v) {
         Checked::Fine => contents(r, k, v, buf, at),

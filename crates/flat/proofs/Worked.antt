@@ -34,11 +34,13 @@ pub record Laid : Type 0 where
       (flatParsed sample (countOf Standard sample) ≡ found 2 5)
       × (flatParsed short (countOf Crate short) ≡ record { code = 1; first = 12; second = 4 })
   -- the first block: its own bytes in the standard, everything left in the crate's
-  pub first-block : (flatBlock Standard sample 8 ≡ blockRow 24 16 16 1 3) × (flatBlock Crate sample 8 ≡ blockRow 24 20 16 1 3)
+  pub first-block :
+      (flatBlock Standard sample 8 ≡ blockRow 24 16 16 1 3) × (flatBlock Crate sample 8 ≡ blockRow 24 20 16 1 3)
   pub last-block : flatBlock Crate sample 24 ≡ blockRow 28 4 4 6 0
   -- two bytes from the end, where a header's length is cut, and past the end, where the place stays
   pub cut : flatBlock Standard sample 26 ≡ blockRow 30 2 4 0 0
-  pub past : (flatBlock Standard sample 28 ≡ blockRow 28 0 4 0 0) × (flatBlock Crate sample 1000 ≡ blockRow 1000 0 4 0 0)
+  pub past :
+      (flatBlock Standard sample 28 ≡ blockRow 28 0 4 0 0) × (flatBlock Crate sample 1000 ≡ blockRow 1000 0 4 0 0)
 
 pub laid : Laid
 unfolding readingOf chunkAsked flatChunk chunkOf flatParsed countOf headerOf walkFrom numbered flatBlock
