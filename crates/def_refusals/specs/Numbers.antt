@@ -5,7 +5,7 @@ use Rattle.def_refusals.specs.declared.Refusal.the-variants.{TooShort, W
 use Rattle.def_refusals.specs.declared.Refusal.the-variants.{WrongLength, BadPadding, BlockTooLong, NoBlock}
 use Rattle.def_refusals.specs.declared.Refusal.the-variants.{OtherType, BadBlockLength, NoFields, NoPlace}
 use Rattle.def_refusals.specs.declared.Refusal.the-variants.{NoRoom, ValueTooLarge, BadRecord, TooMany}
-use Rattle.def_refusals.specs.declared.Refusal.the-variants.{Misleads, BadMark}
+use Rattle.def_refusals.specs.declared.Refusal.the-variants.{Misleads, BadMark, Padded, PastEnd}
 use Rattle.def_refusals.specs.declared.Numbered.{Numbered}
 
 -- a number and two values
@@ -30,3 +30,5 @@ numbered (BadRecord index) = row 12 index 0
 numbered (TooMany found limit) = row 14 found limit
 numbered (Misleads index) = row 15 index 0
 numbered (BadMark index) = row 17 index 0
+numbered Padded = row 18 0 0
+numbered (PastEnd announced given) = row 19 announced given

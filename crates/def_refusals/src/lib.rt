@@ -37,6 +37,10 @@ pub enum Refusal {
     Misleads(usize),
     // 17: the mark's index
     BadMark(usize),
+    // 18
+    Padded,
+    // 19: the length that the header announces, the bytes given in all
+    PastEnd(usize, usize),
 }
 
 // RULES' number and two values.

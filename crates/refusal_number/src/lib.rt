@@ -37,5 +37,7 @@ pub fn number(x: Refusal) -> Numbered
         Refusal::TooMany(found, limit) => row(14, found, limit),
         Refusal::Misleads(index) => row(15, index, 0),
         Refusal::BadMark(index) => row(17, index, 0),
+        Refusal::Padded => row(18, 0, 0),
+        Refusal::PastEnd(announced, given) => row(19, announced, given),
     }
 }

@@ -1,0 +1,14 @@
+-- What a call that stores events leaves.
+--     Laid     the events es were stored in three lists from index n on; n′ is the index past them
+use Prim.Native.Nat.{ℕ, _+_, min}
+use mathlib.Core.Path.{_≡_}
+use mathlib.Core.List.{List}
+use lib.ListN.{length}
+use Rattle.def_portions.specs.declared.Event.{Event}
+use Rattle.def_portions.specs.Lists.{tagPart, numberPart, valuePart, laid}
+
+pub record Laid (es : List Event) (n : ℕ) (t u v t′ u′ v′ : List ℕ) (n′ : ℕ) : Type 0 where
+  pub tags : t′ ≡ laid tagPart es n t
+  pub numbers : u′ ≡ laid numberPart es n u
+  pub values : v′ ≡ laid valuePart es n v
+  pub past : n′ ≡ n + length es

@@ -1,0 +1,2 @@
+-- A call on the state of a packet that comes in portions.
+pub mod Call

@@ -1,0 +1,267 @@
+// The standard reading of a packet that comes in portions, some bytes at a time (RULES, "Packets in portions"): a state
+// of fixed size goes in by value and comes back, and a call's events go into three lent lists. Nothing of the packet is
+// kept but the bytes of an item that is not complete.
+ghost use mathlib.Core.Path.{_≡_};
+ghost use Prim.Native.Nat.{_+_, _≤_};
+ghost use lib.ListN.{length};
+ghost use Rattle.def_questions.specs.Questions.{least3};
+ghost use Rattle.def_portions.specs.Calls.{roomFault};
+ghost use Rattle.states.specs.Steps.{after, shows, shownBy, settled, settledEvents};
+ghost use Rattle.event_lists.specs.Laid.{Laid};
+ghost use Rattle.portions.specs.Call.{announcedBy, takenIn, pastOf, callFault, Following};
+use def_portions::Event;
+use def_refusals::Checked;
+use def_refusals::Refusal;
+use states::Lone;
+use states::Portions;
+use states::Settled;
+
+// No byte has more events than this: a run of 16,383 numbers and the packet's end. A caller who lends room for so many
+// can give one byte at a time and is never refused as 11.
+pub const MOST_EVENTS: usize = 16384;
+
+// A call's answer: the state behind it, how many events it listed, and why it, or the packet, is refused.
+pub struct Followed {
+    pub state: Portions,
+    pub events: usize,
+    pub refusal: Checked,
+}
+
+// The least of three lists' lengths.
+fn room_in(tags: &[u64], numbers: &[u16], values: &[u64]) -> usize
+    ensures { λ r. ⌜ r ≡ least3 (now (tags .entry)) (now (numbers .entry)) (now (values .entry)) ⌝ }
+{
+    utils::lesser(utils::lesser(tags.len(), numbers.len()), values.len())
+}
+
+// Stores the events of a complete item, the packet's end not among them, and answers the index past them.
+fn put_item(
+    st: Portions,
+    tags: &mut [u64],
+    numbers: &mut [u16],
+    values: &mut [u64],
+    n: usize,
+) -> usize
+    requires { ⌜ n + length (shownBy st) ≤ least3 (now tags) (now numbers) (now values) ⌝ }
+    ensures { λ r. ⌜ Laid (shownBy st) n (now (tags .entry)) (now (numbers .entry)) (now (values .entry))
+        (now (tags .exit)) (now (numbers .exit)) (now (values .exit)) r ⌝ }
+{
+    if st.item == states::WORD {
+        let k = st.known;
+        let step = range::doubled(1, steps::thinning_of(k));
+        return event_lists::put_word(
+            tags,
+            numbers,
+            n,
+            steps::low16(st.held),
+            k.inside,
+            k.next,
+            step,
+        );
+    }
+    match steps::lone(st) {
+        Lone::One(e) => event_lists::put(tags, numbers, values, n, e),
+        Lone::Nothing => n,
+    }
+}
+
+// Stores the events of an item that may be complete, and answers the state behind it and the index past them.
+fn put_settled(
+    st: Portions,
+    tags: &mut [u64],
+    numbers: &mut [u16],
+    values: &mut [u64],
+    n: usize,
+) -> Settled
+    requires { ⌜ n + length (settledEvents st) ≤ least3 (now tags) (now numbers) (now values) ⌝ }
+    ensures { λ r. ⌜ r .state ≡ settled st ⌝ }
+    ensures { λ r. ⌜ Laid (settledEvents st) n (now (tags .entry)) (now (numbers .entry)) (now (values .entry))
+        (now (tags .exit)) (now (numbers .exit)) (now (values .exit)) (r .events) ⌝ }
+{
+    if st.missing != 0 {
+        return Settled {
+            state: st,
+            events: n,
+        };
+    }
+    match steps::fault(st) {
+        Checked::Fine => {
+            let past = put_item(st, tags, numbers, values, n);
+            let next = steps::passed(st);
+            if next.item == states::OVER {
+                let end = event_lists::put(tags, numbers, values, past, Event::End);
+                return Settled {
+                    state: next,
+                    events: end,
+                };
+            }
+            Settled {
+                state: next,
+                events: past,
+            }
+        }
+        Checked::Unfit(_) => Settled {
+            state: st,
+            events: n,
+        },
+    }
+}
+
+// How many events some bytes show. One pass over them, by arithmetic.
+fn count(st: Portions, x: &[u8]) -> usize
+    ensures { λ r. ⌜ r ≡ length (shows st (now (x .entry))) ⌝ }
+{
+    let mut at: usize = 0;
+    let mut n: usize = 0;
+    let mut s = st;
+    while at < x.len() {
+        if s.missing == 0 {
+            return n;
+        }
+        let m = utils::lesser(s.missing, x.len() - at);
+        let r = steps::settle(steps::hold(s, x, at, m));
+        s = r.state;
+        n += r.events;
+        at += m;
+    }
+    n
+}
+
+// Stores the events of some bytes into lists that have room for them.
+fn store(
+    st: Portions,
+    x: &[u8],
+    tags: &mut [u64],
+    numbers: &mut [u16],
+    values: &mut [u64],
+) -> Settled
+    requires { ⌜ length (shows st (now x)) ≤ least3 (now tags) (now numbers) (now values) ⌝ }
+    ensures { λ r. ⌜ r .state ≡ after st (now (x .entry)) ⌝ }
+    ensures { λ r. ⌜ Laid (shows st (now (x .entry))) 0 (now (tags .entry)) (now (numbers .entry))
+        (now (values .entry)) (now (tags .exit)) (now (numbers .exit)) (now (values .exit)) (r .events) ⌝ }
+{
+    let mut at: usize = 0;
+    let mut n: usize = 0;
+    let mut s = st;
+    while at < x.len() {
+        if s.missing == 0 {
+            return Settled {
+                state: s,
+                events: n,
+            };
+        }
+        let m = utils::lesser(s.missing, x.len() - at);
+        let r = put_settled(steps::hold(s, x, at, m), tags, numbers, values, n);
+        s = r.state;
+        n = r.events;
+        at += m;
+    }
+    Settled {
+        state: s,
+        events: n,
+    }
+}
+
+// The announced length, as far as it is known with these bytes; else 0.
+fn announced_by(st: Portions, x: &[u8]) -> usize
+    ensures { λ r. ⌜ r ≡ announcedBy st (now (x .entry)) ⌝ }
+{
+    let k = st.known;
+    if st.item != states::HEAD {
+        return k.announced as usize;
+    }
+    let m = st.missing;
+    if x.len() < m {
+        return 0;
+    }
+    let s = steps::hold(st, x, 0, m);
+    steps::good_length(steps::low32(s.held))
+}
+
+// How many bytes were taken before.
+fn taken_in(st: Portions) -> usize
+    ensures { λ r. ⌜ (r ≡ takenIn st) × (r ≤ 4294967295) ⌝ }
+{
+    let k = st.known;
+    if st.item == states::HEAD {
+        return utils::above(4, st.missing);
+    }
+    let all = k.announced as usize;
+    utils::above(
+        utils::above(utils::above(all, st.behind), st.rest),
+        st.missing,
+    )
+}
+
+// 19: more bytes than the header announces.
+fn past_end(st: Portions, x: &[u8]) -> Checked
+    ensures { λ r. ⌜ r ≡ pastOf st (now (x .entry)) ⌝ }
+{
+    let announced = announced_by(st, x);
+    if announced == 0 {
+        return Checked::Fine;
+    }
+    let given = taken_in(st) + x.len();
+    if given <= announced {
+        return Checked::Fine;
+    }
+    Checked::Unfit(Refusal::PastEnd(announced, given))
+}
+
+// 11: less room than events. They are counted only where the room might be too little.
+fn too_little(st: Portions, x: &[u8], room: usize) -> Checked
+    ensures { λ r. ⌜ r ≡ roomFault (shows st (now (x .entry))) room ⌝ }
+{
+    if x.len() <= room / MOST_EVENTS {
+        return Checked::Fine;
+    }
+    let needed = count(st, x);
+    if needed <= room {
+        return Checked::Fine;
+    }
+    Checked::Unfit(Refusal::NoRoom(needed, room))
+}
+
+// The refusal of a call that takes nothing: one that stays, 19, 11.
+fn call_fault(st: Portions, x: &[u8], room: usize) -> Checked
+    ensures { λ r. ⌜ r ≡ callFault st (now (x .entry)) room ⌝ }
+{
+    match steps::fault(st) {
+        Checked::Fine => match past_end(st, x) {
+            Checked::Fine => too_little(st, x, room),
+            Checked::Unfit(y) => Checked::Unfit(y),
+        },
+        Checked::Unfit(y) => Checked::Unfit(y),
+    }
+}
+
+// Takes some bytes of a packet, or none, and lists their events: the state behind them, how many events were listed,
+// and the refusal. One that stays: 1, 2, 3, 18, 6, 7, with the events before it listed. One that takes nothing and
+// leaves all as it was: 19, 11. A call costs what its bytes and its events cost (RULES, "Packets in portions").
+pub fn follow(
+    st: Portions,
+    x: &[u8],
+    tags: &mut [u64],
+    numbers: &mut [u16],
+    values: &mut [u64],
+) -> Followed
+    ensures { λ r. ⌜ Following st (now (x .entry)) (now (tags .entry)) (now (numbers .entry)) (now (values .entry)) r
+        (now (tags .exit)) (now (numbers .exit)) (now (values .exit)) ⌝ }
+{
+    match call_fault(st, x, room_in(tags, numbers, values)) {
+        Checked::Fine => {
+            let r = store(st, x, tags, numbers, values);
+            let s = r.state;
+            Followed {
+                state: s,
+                events: r.events,
+                refusal: steps::fault(s),
+            }
+        }
+        Checked::Unfit(y) => Followed {
+            state: st,
+            events: 0,
+            refusal: Checked::Unfit(y),
+        },
+    }
+}
