@@ -8,10 +8,11 @@ ghost use Rattle.def_questions.specs.Questions.{least3};
 ghost use Rattle.def_portions.specs.Calls.{roomFault};
 ghost use Rattle.states.specs.Steps.{after, shows, shownBy, settled, settledEvents};
 ghost use Rattle.event_lists.specs.Laid.{Laid};
-ghost use Rattle.portions.specs.Call.{announcedBy, takenIn, pastOf, callFault, Following};
+ghost use Rattle.states.specs.Call.{announcedBy, takenIn, pastOf, callFault, Following};
 use def_portions::Event;
 use def_refusals::Checked;
 use def_refusals::Refusal;
+use states::Followed;
 use states::Lone;
 use states::Portions;
 use states::Settled;
@@ -19,13 +20,6 @@ use states::Settled;
 // No byte has more events than this: a run of 16,383 numbers and the packet's end. A caller who lends room for so many
 // can give one byte at a time and is never refused as 11.
 pub const MOST_EVENTS: usize = 16384;
-
-// A call's answer: the state behind it, how many events it listed, and why it, or the packet, is refused.
-pub struct Followed {
-    pub state: Portions,
-    pub events: usize,
-    pub refusal: Checked,
-}
 
 // The least of three lists' lengths.
 fn room_in(tags: &[u64], numbers: &[u16], values: &[u64]) -> usize

@@ -3,6 +3,7 @@
 // what the items behind it need to know. Nothing else of the packet is kept: it is 64 bytes, whatever the packet.
 // Definitions only: see specs/.
 use def_portions::Event;
+use def_refusals::Checked;
 
 // The items, in the order in which a packet can have them.
 pub const HEAD: u8 = 0;
@@ -65,4 +66,11 @@ pub enum Lone {
 pub struct Settled {
     pub state: Portions,
     pub events: usize,
+}
+
+// A call's answer: the state behind it, how many events it listed, and why it, or the packet, is refused.
+pub struct Followed {
+    pub state: Portions,
+    pub events: usize,
+    pub refusal: Checked,
 }

@@ -1,4 +1,4 @@
--- What a call gives on a state, whatever state it is: the bytes one after another (states, Steps). That this is what
+-- What a call gives on a state, whatever state it is: the bytes one after another (Steps). That this is what
 -- def_portions says of the bytes, for states that calls gave, is in `claims`.
 --     callFault      the refusal of a call that takes nothing: one that stays, 19, 11
 --     followedOf     the answer
@@ -19,9 +19,9 @@ use Rattle.def_portions.specs.declared.Event.{Event}
 use Rattle.def_portions.specs.Events.{need}
 use Rattle.def_portions.specs.Calls.{roomFault}
 use Rattle.def_portions.specs.Lists.{tagPart, numberPart, valuePart, laid}
 use Rattle.states.specs.declared.Portions.{Portions}
 use Rattle.states.specs.Steps.{head, low32, heldOver, goodLength, faultOf, after, shows}
-use Rattle.portions.specs.declared.Followed.{Followed}
+use Rattle.states.specs.declared.Followed.{Followed}
 
 -- the announced length, as far as it is known with the bytes x; else 0
 unfoldable pub announcedBy : Portions → List ℕ → ℕ
