@@ -1,0 +1,103 @@
+-- The laws of events that are laid into three lists (def_portions, Lists): the one place that unfolds `laid`. Assumes
+-- nothing.
+--     laid-append, length-laid     events one after the other; the length is as it was
+--     laid-tags, ..                events that are numbers
+--     laid-none, and-then, ..      what calls leave that store events
+use Prim.Native.Nat.{ℕ, suc, _+_}
+use mathlib.Core.Path.{_≡_, refl, sym, ap, _∙_}
+use mathlib.Core.List.{List, [], _∷_, _++_, map}
+use native.Mathlib.Nat.{add-zero}
+use native.Mathlib.Omega.{arith}
+use lib.ListN.{length, set, replicate, length-set, length-append, length-map}
+use lib.Seq.{sets}
+use Rattle.def_portions.specs.declared.Event.{Event}
+use Rattle.def_portions.specs.declared.Event.the-variants.{Number}
+use Rattle.def_portions.specs.Lists.{Part, keeps, puts, tagOf, tagPart, numberPart, valuePart, putAt, laid}
+use Rattle.event_lists.specs.Laid.{Laid}
+
+-- ---- one list
+
+length-put : (p : Part) (n : ℕ) (l : List ℕ) → length (putAt p n l) ≡ length l
+length-put keeps n l = refl
+length-put (puts x) n l = length-set l n x
+
+module _ (part : Event → Part) where
+  -- events, and more behind them
+  pub laid-append : (es fs : List Event) (n : ℕ) (l : List ℕ)
+      → laid part (es ++ fs) n l ≡ laid part fs (n + length es) (laid part es n l)
+  unfolding laid
+  laid-append [] fs n l = ap (λ (k : ℕ). laid part fs k l) (sym (add-zero n))
+  laid-append (e ∷ es) fs n l =
+      let k : suc n + length es ≡ n + suc (length es) = omega arith in
+      laid-append es fs (suc n) (putAt (part e) n l)
+      ∙ ap (λ (j : ℕ). laid part fs j (laid part es (suc n) (putAt (part e) n l))) k
+
+  -- the length is as it was
+  pub length-laid : (es : List Event) (n : ℕ) (l : List ℕ) → length (laid part es n l) ≡ length l
+  unfolding laid
+  length-laid [] n l = refl
+  length-laid (e ∷ es) n l = length-laid es (suc n) (putAt (part e) n l) ∙ length-put (part e) n l
+
+-- ---- events that are numbers
+
+-- their tags are all the same
+pub laid-tags : (xs : List ℕ) (n : ℕ) (l : List ℕ)
+    → laid tagPart (map Number xs) n l ≡ sets l n (replicate (length xs) 4)
+unfolding laid tagOf
+laid-tags [] n l = refl
+laid-tags (x ∷ xs) n l = laid-tags xs (suc n) (set l n 4)
+
+pub laid-numbers : (xs : List ℕ) (n : ℕ) (l : List ℕ) → laid numberPart (map Number xs) n l ≡ sets l n xs
+unfolding laid numberPart
+laid-numbers [] n l = refl
+laid-numbers (x ∷ xs) n l = laid-numbers xs (suc n) (set l n x)
+
+-- they have no values
+pub laid-values : (xs : List ℕ) (n : ℕ) (l : List ℕ) → laid valuePart (map Number xs) n l ≡ l
+unfolding laid valuePart
+laid-values [] n l = refl
+laid-values (x ∷ xs) n l = laid-values xs (suc n) l
+
+-- ---- what calls leave
+
+-- nothing was stored
+pub laid-none : {n : ℕ} {t u v : List ℕ} → Laid [] n t u v t u v n
+unfolding laid
+laid-none {n} = record { tags = refl; numbers = refl; values = refl; past = sym (add-zero n) }
+
+pub and-then : {es fs : List Event} {n n1 n2 : ℕ} {t u v t1 u1 v1 t2 u2 v2 : List ℕ} → Laid es n t u v t1 u1 v1 n1
+    → Laid fs n1 t1 u1 v1 t2 u2 v2 n2 → Laid (es ++ fs) n t u v t2 u2 v2 n2
+and-then {es} {fs} {n} {n1} {n2} {t} {u} {v} p q =
+    record {
+      tags = q .tags ∙ (rw (p .tags, p .past) (sym (laid-append tagPart es fs n t)));
+      numbers = q .numbers ∙ (rw (p .numbers, p .past) (sym (laid-append numberPart es fs n u)));
+      values = q .values ∙ (rw (p .values, p .past) (sym (laid-append valuePart es fs n v)));
+      past = rw (length-append es fs) (omega (arith, p .past, q .past));
+    }
+
+-- the events are known under another name
+pub laid-as : {es fs : List Event} {n n1 : ℕ} {t u v t1 u1 v1 : List ℕ} → es ≡ fs → Laid es n t u v t1 u1 v1 n1
+    → Laid fs n t u v t1 u1 v1 n1
+laid-as e p = rw (← e) p
+
+-- the lengths are as they were
+module _ {es : List Event} {n n1 : ℕ} {t u v t1 u1 v1 : List ℕ} (p : Laid es n t u v t1 u1 v1 n1) where
+  pub same-tags : length t1 ≡ length t
+  same-tags = ap length (p .tags) ∙ length-laid tagPart es n t
+
+  pub same-numbers : length u1 ≡ length u
+  same-numbers = ap length (p .numbers) ∙ length-laid numberPart es n u
+
+  pub same-values : length v1 ≡ length v
+  same-values = ap length (p .values) ∙ length-laid valuePart es n v
+
+-- numbers were stored: in two lists
+pub laid-word : (xs : List ℕ) {n n1 : ℕ} {t u v t1 u1 : List ℕ} → t1 ≡ laid tagPart (map Number xs) n t
+    → u1 ≡ laid numberPart (map Number xs) n u → n1 ≡ n + length xs → Laid (map Number xs) n t u v t1 u1 v n1
+laid-word xs {n} {v = v} e f g =
+    record {
+      tags = e;
+      numbers = f;
+      values = sym (laid-values xs n v);
+      past = rw (length-map xs Number) g;
+    }

@@ -1,0 +1,2 @@
+-- LaidLaws (events laid into lists).
+pub mod LaidLaws
