@@ -8,12 +8,12 @@ use mathlib.Core.Path.{_≡_, refl, sym, ap, _∙_}
 use mathlib.Core.List.{List, [], _∷_, _++_, map}
 use native.Mathlib.Nat.{add-zero}
 use native.Mathlib.Omega.{arith}
-use lib.ListN.{length, set, replicate, length-set, length-append, length-map}
+use lib.ListN.{length, set, length-set, length-append, length-map}
 use lib.Seq.{sets}
 use Rattle.def_portions.specs.declared.Event.{Event}
 use Rattle.def_portions.specs.declared.Event.the-variants.{Number}
 use Rattle.def_portions.specs.Lists.{Part, keeps, puts, tagOf, tagPart, numberPart, valuePart, putAt, laid}
-use Rattle.event_lists.specs.Laid.{Laid}
+use Rattle.event_lists.specs.Laid.{Laid, numberTags}
 
 -- ---- one list
 
@@ -42,7 +42,7 @@ module _ (part : Event → Part) where
 
 -- their tags are all the same
 pub laid-tags : (xs : List ℕ) (n : ℕ) (l : List ℕ)
-    → laid tagPart (map Number xs) n l ≡ sets l n (replicate (length xs) 4)
+    → laid tagPart (map Number xs) n l ≡ sets l n (numberTags (length xs))
 unfolding laid tagOf
 laid-tags [] n l = refl
 laid-tags (x ∷ xs) n l = laid-tags xs (suc n) (set l n 4)
@@ -101,3 +101,9 @@ laid-word xs {n} {v = v} e f g =
       values = sym (laid-values xs n v);
       past = rw (length-map xs Number) g;
     }
+
+-- one event was stored, known by its parts
+pub laid-one : {e f : Event} {n : ℕ} {t u v t1 u1 v1 : List ℕ} → e ≡ f → t1 ≡ putAt (tagPart f) n t
+    → u1 ≡ putAt (numberPart f) n u → v1 ≡ putAt (valuePart f) n v → Laid (e ∷ []) n t u v t1 u1 v1 (n + 1)
+unfolding laid
+laid-one e p q r = rw e (record { tags = p; numbers = q; values = r; past = refl })
