@@ -1,6 +1,7 @@
 -- The laws of events that are laid into three lists (def_portions, Lists): the one place that unfolds `laid`. Assumes
 -- nothing.
 --     laid-append, length-laid     events one after the other; the length is as it was
+--     laid-front                   from the front on, item by item
 --     laid-tags, ..                events that are numbers
 --     laid-none, and-then, ..      what calls leave that store events
 use Prim.Native.Nat.{ℕ, suc, _+_}
@@ -21,6 +22,19 @@ length-put : (p : Part) (n : ℕ) (l : List ℕ) → length (putAt p n l) ≡ le
 length-put keeps n l = refl
 length-put (puts x) n l = length-set l n x
 
+-- an item after a part was put there
+abbrev pub itemAfter : Part → ℕ → ℕ
+itemAfter keeps x = x
+itemAfter (puts y) x = y
+
+put-front : (p : Part) (x : ℕ) (l : List ℕ) → putAt p 0 (x ∷ l) ≡ itemAfter p x ∷ l
+put-front keeps x l = refl
+put-front (puts y) x l = refl
+
+put-behind : (p : Part) (n x : ℕ) (l : List ℕ) → putAt p (suc n) (x ∷ l) ≡ x ∷ putAt p n l
+put-behind keeps n x l = refl
+put-behind (puts y) n x l = refl
+
 module _ (part : Event → Part) where
   -- events, and more behind them
   pub laid-append : (es fs : List Event) (n : ℕ) (l : List ℕ)
@@ -37,6 +51,18 @@ module _ (part : Event → Part) where
   unfolding laid
   length-laid [] n l = refl
   length-laid (e ∷ es) n l = length-laid es (suc n) (putAt (part e) n l) ∙ length-put (part e) n l
+
+  -- what stands before is as it was
+  laid-behind : (es : List Event) (n x : ℕ) (l : List ℕ) → laid part es (suc n) (x ∷ l) ≡ x ∷ laid part es n l
+  unfolding laid
+  laid-behind [] n x l = refl
+  laid-behind (e ∷ es) n x l =
+      ap (laid part es (suc (suc n))) (put-behind (part e) n x l) ∙ laid-behind es (suc n) x (putAt (part e) n l)
+
+  pub laid-front : (e : Event) (es : List Event) (x : ℕ) (l : List ℕ)
+      → laid part (e ∷ es) 0 (x ∷ l) ≡ itemAfter (part e) x ∷ laid part es 0 l
+  unfolding laid
+  laid-front e es x l = ap (laid part es 1) (put-front (part e) x l) ∙ laid-behind es 0 (itemAfter (part e) x) l
 
 -- ---- events that are numbers
 
