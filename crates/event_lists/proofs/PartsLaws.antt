@@ -1,12 +1,12 @@
 -- The laws of events read back from three lists: the one place that unfolds `eventOf`. Assumes nothing.
---     event-header, ..       the event is of the kind that its tag says
---     event-back             an event in range is the one that its own parts are
---     event-at, events-back     so is each of the events that were laid into lists, and all of them
+--     event-header, ..             the event is of the kind that its tag says
+--     event-back                   an event in range is the one that its own parts are
+--     events-back, laid-back, ..   so are all events that were laid into lists, and each of them
 use Prim.Native.Nat.{ℕ, zero, suc, _+_, _*_, _/_, _%_, _^_, _≤_, _<_}
 use mathlib.Core.Path.{_≡_, refl, sym, ap, ap₂, _∙_}
 use mathlib.Core.List.{List, [], _∷_, _++_}
 use native.Mathlib.Omega.{arith}
-use lib.ListN.{length, take, drop, getD}
+use lib.ListN.{length, drop, getD}
 use lib.Seq.{drop-nil}
 use lib.Arith.{digits-mod}
 use borrow.Author.Tests.{ne-eqb}
@@ -14,12 +14,12 @@ use Rattle.def_wire.specs.declared.Fields.{Fields}
 use Rattle.def_standard.specs.Standard.{receipt}
 use Rattle.def_portions.specs.declared.Event.{Event}
 use Rattle.def_portions.specs.declared.Event.the-variants.{Header, Start, Ranged as RangedStart, Number, Pair}
-use Rattle.def_portions.specs.declared.Event.the-variants.{Entry, Time, End}
-use Rattle.def_portions.specs.Lists.{Part, keeps, puts, startTag, halves, tagOf, tagPart, numberPart, valuePart, putAt, laid}
+use Rattle.def_portions.specs.declared.Event.the-variants.{Time, End}
+use Rattle.def_portions.specs.Lists.{startTag, halves, tagOf, tagPart, numberPart, valuePart, laid}
 use Rattle.event_lists.specs.Laid.{Laid}
 use Rattle.event_lists.specs.Parts.{typeIn, lengthIn, fieldsOf, entryOf, eventOf, eventsOf, eventsIn}
-use Rattle.event_lists.specs.Parts.{InRange, inHeader, inStart, inRanged, inNumber, inPair, inEntry, inTime, inEnd}
-use Rattle.event_lists.specs.Parts.{AllInRange, noneLeft, inBoth}
+use Rattle.event_lists.specs.Parts.{InRange, inHeader, inStart, inRanged, inNumber, inPair, inEntry}
+use Rattle.event_lists.specs.Parts.{inTime, inEnd, AllInRange, noneLeft, inBoth}
 use Rattle.event_lists.proofs.LaidLaws.{itemAfter, laid-front}
 
 -- ---- one event

@@ -1,5 +1,5 @@
-// Events in three lent lists side by side (RULES, "Packets in portions"): stored one by one, the numbers of a chunk word
-// at once, and read back.
+// Events in three lent lists side by side (RULES, "Packets in portions"): stored one by one, the numbers of a chunk
+// word at once, and read back.
 ghost use mathlib.Core.Path.{_≡_};
 ghost use mathlib.Core.List.{_∷_, [], map};
 ghost use Prim.Native.Nat.{_+_, _-_, _≤_, _<_};

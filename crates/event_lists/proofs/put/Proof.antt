@@ -1,6 +1,6 @@
 -- `event_lists::put` meets its contract: each kind of event has its parts stored. Assumes nothing.
-use Prim.Native.Nat.{ℕ, _+_}
-use mathlib.Core.Path.{_≡_, ap, _∙_}
+use Prim.Native.Nat.{_+_}
+use mathlib.Core.Path.{ap, _∙_}
 use mathlib.Core.List.{[], _∷_}
 use mathlib.Core.Logic.{⊎-elim}
 use lib.ListN.{set}
@@ -11,8 +11,10 @@ use Rattle.event_lists.proofs.LaidLaws.{laid-one, same-tags, same-numbe
 use Rattle.event_lists.proofs.put.Statement.{statement}
 use Rattle.event_lists.proofs.put.Tie as tie
 
+-- by the arm that was taken: the event is of its kind, and its parts are what was stored
 stored : (c : tie.At-match-came) → let a = c .before .before .before .before .args in let m = c .match in
-    Laid (a .e ∷ []) (a .n) (a .tags .now) (a .numbers .now) (a .values .now) (m .tags) (m .numbers) (m .values) (a .n + 1)
+    Laid (a .e ∷ []) (a .n) (a .tags .now) (a .numbers .now) (a .values .now) (m .tags) (m .numbers) (m .values)
+    (a .n + 1)
 unfolding tagOf numberPart valuePart
 stored c = let a = c .before .before .before .before .args in
     ⊎-elim (λ w. laid-one (w .1 .given .1) (w .3) (w .4) (w .5))

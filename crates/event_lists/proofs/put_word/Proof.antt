@@ -18,7 +18,8 @@ returns c = let t = c .before .before in
     let a = w .before .before .before .before .args in
     let xs = along (a .step) (a .first) (take (a .room) (valuesIn (a .w))) in
     let e : w .store-word .result - a .n ≡ length xs = omega (arith, w .store-word .ensures .past) in (
-      t .put-tags .ensures ∙ ap (λ (k : ℕ). sets (a .tags .now) (a .n) (numberTags k)) e ∙ sym (laid-tags xs (a .n) (a .tags .now)),
+      t .put-tags .ensures ∙ ap (λ (k : ℕ). sets (a .tags .now) (a .n) (numberTags k)) e
+          ∙ sym (laid-tags xs (a .n) (a .tags .now)),
       (w .store-word .ensures .stored ∙ sym (laid-numbers xs (a .n) (a .numbers .now)), w .store-word .ensures .past),
     )
 
