@@ -19,4 +19,5 @@ pub mod JobsLargest
 pub mod Marks
 pub mod Text
 pub mod Dump
+pub mod EventLines
 pub mod Probe
