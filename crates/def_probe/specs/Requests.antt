@@ -3,10 +3,10 @@
 --     Reply          text lines, or `cut`
 --     lineIn         a list's line in so much room, else the refusal's
 --     answerTo       the reply to a request
-use Prim.Native.Nat.{ℕ, min}
+use Prim.Native.Nat.{ℕ, zero, suc, _+_, _*_, _-_, min}
 use mathlib.Core.Bool.{Bool, true, false, cond}
-use mathlib.Core.List.{List, [], _++_}
-use lib.ListN.{length, drop}
+use mathlib.Core.List.{List, [], _∷_, _++_}
+use lib.ListN.{length, take, drop}
 use lib.Dec.{leb, eqb}
 use Rattle.def_refusals.specs.declared.Refusal.the-variants.{NoRoom}
 use Rattle.def_refusals.specs.declared.Answer.{Answer}
@@ -38,9 +38,11 @@ use Rattle.def_cursor.specs.declared.Stretch.{Stretch}
 use Rattle.def_cursor.specs.Cursor.{cursor, advanceFault, stretchOf, listedBy}
 use Rattle.def_jobs.specs.declared.Layout.{Layout}
 use Rattle.def_jobs.specs.declared.Layout.the-variants.{Plain, Careful}
-use Rattle.def_jobs.specs.Jobs.{le32}
+use Rattle.def_jobs.specs.Jobs.{le16, le32}
 use Rattle.def_jobs.specs.Writing.{packetOf}
 use Rattle.def_marks.specs.Marks.{marksAsked}
+use Rattle.def_portions.specs.Calls.{Call, callOf}
+use Rattle.def_dump.specs.EventLines.{eventLines, givenLine}
 use Rattle.def_dump.specs.Lines.{refusalLine, fieldsLine, timeLine, numbersLine, wordsLine, pairsLine, entriesLine}
 use Rattle.def_dump.specs.Lines.{takenLine, wordLine, blocksLine, viewLine, packetLine}
 use Rattle.def_dump.specs.Dump.{dumpText}
