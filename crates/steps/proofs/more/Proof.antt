@@ -1,0 +1,17 @@
+-- `steps::more` meets its contract.
+use borrow.Author.Tests.{eq-eqb, ne-eqb}
+use borrow.Author.Needs.{needs}
+use Rattle.steps.proofs.more.Statement.{statement}
+use Rattle.steps.proofs.more.Tie as tie
+use Rattle.steps.proofs.more.Reads as reads
+use Rattle.steps.proofs.more.Lts as lts
+
+returns : tie.Need-returns
+returns c = rw (eq-eqb _ _ (c .if1 .taken))
+
+returns-2 : tie.Need-returns-2
+returns-2 c = rw (ne-eqb _ _ (c .if1 .left))
+
+pub more-spec : {M : Type 1} → statement M
+more-spec =
+    tie.close (tie.spec returns (λ c. search needs) (λ c. search needs) returns-2)
