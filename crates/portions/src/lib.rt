@@ -248,12 +248,14 @@ pub fn follow(
             let s = r.state;
             Followed {
                 state: s,
+                taken: x.len(),
                 events: r.events,
                 refusal: steps::fault(s),
             }
         }
         Checked::Unfit(y) => Followed {
             state: st,
+            taken: 0,
             events: 0,
             refusal: Checked::Unfit(y),
         },

@@ -45,8 +45,9 @@ unfoldable pub callFault : Portions → List ℕ → ℕ → Checked
 callFault st x room = thenCheck (faultOf st) (thenCheck (pastOf st x) (roomFault (shows st x) room))
 
 abbrev pub followedBy : Checked → Portions → List ℕ → Followed
-followedBy Fine st x = record { state = after st x; events = length (shows st x); refusal = faultOf (after st x) }
-followedBy (Unfit y) st x = record { state = st; events = 0; refusal = Unfit y }
+followedBy Fine st x =
+    record { state = after st x; taken = length x; events = length (shows st x); refusal = faultOf (after st x) }
+followedBy (Unfit y) st x = record { state = st; taken = 0; events = 0; refusal = Unfit y }
 
 unfoldable pub followedOf : Portions → List ℕ → ℕ → Followed
 followedOf st x room = followedBy (callFault st x room) st x

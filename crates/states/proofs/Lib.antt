@@ -1,0 +1,2 @@
+-- RunLaws (some bytes at once).
+pub mod RunLaws
