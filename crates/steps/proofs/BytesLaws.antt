@@ -2,7 +2,6 @@
 use Prim.Native.Nat.{ℕ, _/_}
 use mathlib.Core.Path.{_≡_}
 use native.Mathlib.Omega.{arith}
-use Rattle.def_wire.specs.declared.Fields.{Fields}
 use Rattle.def_wire.specs.Bytes.{be16, be32, two, four}
 use Rattle.states.specs.declared.Known.{Known}
 use Rattle.states.specs.Steps.{low16, low32, high32, thinningIn, fieldsIn}

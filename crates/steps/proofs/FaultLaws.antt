@@ -9,7 +9,7 @@ use Rattle.def_refusals.specs.declared.Refusal.the-variants.{TooShort, WrongVer
 use Rattle.def_refusals.specs.declared.Refusal.the-variants.{BlockTooLong}
 use Rattle.def_refusals.specs.declared.Checked.the-variants.{Fine, Unfit}
 use Rattle.def_wire.specs.Bytes.{byteAt}
-use Rattle.def_wire.specs.Packet.{announcedOf, versionOf}
+use Rattle.def_wire.specs.Packet.{announcedOf}
 use Rattle.def_wire.specs.Block.{typeOf, blockLength, kindOf}
 use Rattle.def_portions.specs.Events.{headFault, blockFault, ruleOf}
 

@@ -5,7 +5,7 @@ use Prim.Native.Nat.{ℕ, suc, _+_, _-_, _≤_, _<_}
 use mathlib.Core.Path.{_≡_, refl, ap, _∙_}
 use mathlib.Core.List.{List, [], _∷_}
 use native.Mathlib.Omega.{arith}
-use lib.ListN.{length}
+use lib.ListN.{length, drop, length-take, length-drop}
 use lib.Seq.{drop-cons}
 use Rattle.def_wire.specs.Bytes.{byteAt}
 use Rattle.def_wire.specs.Packet.{part}
@@ -15,6 +15,9 @@ pub held-skipped : (item h : ℕ) (bs : List ℕ) → item ≡ skipped → h ≡
 unfolding heldOver
 held-skipped item h [] e = refl
 held-skipped item h (b ∷ bs) e = rw e (held-skipped skipped h bs refl)
+
+pub length-part : (x : List ℕ) (at n : ℕ) → at + n ≤ length x → length (part x at n) ≡ n
+length-part x at n h = omega (arith, length-take n (drop at x), length-drop at x)
 
 -- nothing is left
 pub held-none : (item h : ℕ) (x : List ℕ) (at n : ℕ) → n ≡ 0 → h ≡ heldOver item h (part x at n)

@@ -1,7 +1,6 @@
 -- An item that may be complete: the state behind it and its events, by what is known of it. The one place that unfolds
 -- `settled` and `settledEvents`. Assumes nothing.
-use Prim.Native.Nat.{ℕ}
-use mathlib.Core.Path.{_≡_, sym, _∙_}
+use mathlib.Core.Path.{_≡_}
 use mathlib.Core.List.{[], _∷_, _++_, append-nil}
 use borrow.Author.Tests.{eq-eqb, ne-eqb}
 use Rattle.def_refusals.specs.declared.Refusal.{Refusal}

@@ -1,15 +1,12 @@
 -- How many events a complete item shows: the one place that unfolds `shownBy`. Assumes nothing.
 use Prim.Native.Nat.{ℕ, _≤_}
-use mathlib.Core.Path.{_≡_, ap, _∙_}
-use mathlib.Core.List.{List}
+use mathlib.Core.Path.{_≡_}
 use native.Mathlib.Omega.{arith}
 use lib.ListN.{length, take, length-map, length-take}
 use lib.Dec.{eqb}
 use borrow.Author.Tests.{ne-eqb}
 use Rattle.laws.proofs.Tests.{either}
 use Rattle.def_standard.specs.Chunks.{valuesIn}
-use Rattle.def_portions.specs.declared.Event.{Event}
-use Rattle.def_portions.specs.declared.Event.the-variants.{Number}
 use Rattle.range.specs.Steps.{stepOf}
 use Rattle.chunk.specs.Ones.{onesBefore}
 use Rattle.chunk.proofs.ChunkLaws.{length-valuesIn, covers-lt}

@@ -5,11 +5,6 @@ use Rattle.steps.proofs.FaultLaws.{block-long, block-rule}
 use borrow.Author.Needs.{needs}
 use Rattle.steps.proofs.block_fault.Statement.{statement}
 use Rattle.steps.proofs.block_fault.Tie as tie
-use Rattle.steps.proofs.block_fault.Reads as reads
-use Rattle.steps.proofs.block_fault.Lts as lts
-use Rattle.steps.proofs.first_byte.Reads as first-byte-reads
-use Rattle.steps.proofs.length_of.Reads as length-of-reads
-use Rattle.steps.proofs.rule_of.Reads as rule-of-reads
 
 returns : tie.Need-returns
 returns c = let l = c .before in
@@ -19,8 +14,9 @@ returns c = let l = c .before in
 returns-2 : tie.Need-returns-2
 returns-2 c = let o = c .before .before in
     let l = o .before in
-    let a = l .before .args in
-    rw (c .rule-of .ensures, c .before .first-byte .ensures) (block-rule _ (four (a .w)) _ (l .length-of .ensures .0) (omega (arith, o .if1 .left, l .length-of .ensures .1)))
+    let n = l .length-of in
+    rw (c .rule-of .ensures, c .before .first-byte .ensures)
+    (block-rule _ (four (l .before .args .w)) _ (n .ensures .0) (omega (arith, o .if1 .left, n .ensures .1)))
 
 pub block-fault-spec : {M : Type 1} → statement M
 block-fault-spec =

@@ -1,14 +1,9 @@
--- `steps::fault` meets its contract.
-use borrow.Author.Tests.{eq-eqb, ne-eqb}
+-- `steps::fault` meets its contract: the refusal of a complete item, by its kind.
+use borrow.Author.Tests.{ne-eqb}
 use Rattle.states.specs.Steps.{faultOf}
 use borrow.Author.Needs.{needs}
 use Rattle.steps.proofs.fault.Statement.{statement}
 use Rattle.steps.proofs.fault.Tie as tie
-use Rattle.steps.proofs.fault.Reads as reads
-use Rattle.steps.proofs.fault.Lts as lts
-use Rattle.steps.proofs.block_fault.Reads as block-fault-reads
-use Rattle.steps.proofs.head_fault.Reads as head-fault-reads
-use Rattle.steps.proofs.low32.Reads as low32-reads
 
 returns : tie.Need-returns
 unfolding faultOf
@@ -22,7 +17,8 @@ returns-2 c = let i = c .before .before in
 returns-3 : tie.Need-returns-3
 unfolding faultOf
 returns-3 c = let i = c .before .before in
-    rw (c .block-fault .ensures, c .before .low322 .ensures, i .before .before .before .before .if1 .left, i .if3 .taken)
+    let o = i .before .before .before .before in
+    rw (c .block-fault .ensures, c .before .low322 .ensures, o .if1 .left, i .if3 .taken)
 
 returns-4 : tie.Need-returns-4
 unfolding faultOf

@@ -1,7 +1,6 @@
 -- `steps::gathered` meets its contract: the bytes that are left make the number that all of them make.
-use Prim.Native.Nat.{ℕ, _+_, _≤_}
+use Prim.Native.Nat.{_+_, _≤_}
 use mathlib.Core.Path.{_≡_, refl, sym, _∙_}
-use mathlib.Core.List.{List}
 use native.Mathlib.Omega.{arith}
 use lib.ListN.{length}
 use Rattle.def_wire.specs.Packet.{part}
@@ -10,19 +9,17 @@ use Rattle.steps.proofs.HeldLaws.{held-skipped, held-none, held-one, he
 use borrow.Author.Needs.{needs}
 use Rattle.steps.proofs.gathered.Statement.{statement}
 use Rattle.steps.proofs.gathered.Tie as tie
-use Rattle.steps.proofs.gathered.Reads as reads
-use Rattle.steps.proofs.gathered.Lts as lts
-use Rattle.steps.proofs.four_more.Reads as four-more-reads
-use Rattle.steps.proofs.more.Reads as more-reads
 
 abbrev Inv-loop : tie.InvT-loop
-Inv-loop item held x from m h₀ at₀ left₀ h at left = (at + left ≤ length x) × (heldOver item h (part x at left) ≡ heldOver item h₀ (part x at₀ left₀))
+Inv-loop item held x from m h₀ at₀ left₀ h at left =
+    (at + left ≤ length x) × (heldOver item h (part x at left) ≡ heldOver item h₀ (part x at₀ left₀))
 
 abbrev μ-loop : tie.MeasureT-loop
 μ-loop item held x from m h₀ at₀ left₀ h at left = left
 
 abbrev Inv-loop2 : tie.InvT-loop2
-Inv-loop2 item held x from m h₀ at₀ left₀ h at left = (at + left ≤ length x) × (heldOver item h (part x at left) ≡ heldOver item h₀ (part x at₀ left₀))
+Inv-loop2 item held x from m h₀ at₀ left₀ h at left =
+    (at + left ≤ length x) × (heldOver item h (part x at left) ≡ heldOver item h₀ (part x at₀ left₀))
 
 abbrev μ-loop2 : tie.MeasureT-loop2
 μ-loop2 item held x from m h₀ at₀ left₀ h at left = left
@@ -38,7 +35,7 @@ loop-again c = let i = c .before .before .before .before .before in
     let l = i .before in
     let a = l .before .before .before .args in
     let e = held-four (a .item) (a .x .now) (l .loop .h) (l .loop .at) (l .loop .left) (i .loop-test .taken)
-        (l .loop .inv .0) in
+    (l .loop .inv .0) in
     (omega (arith, i .loop-test .taken, l .loop .inv .0), rw (c .four-more .ensures) (sym e ∙ l .loop .inv .1))
 
 loop2-holds : tie.Need-loop2-holds Inv-loop μ-loop Inv-loop2 μ-loop2

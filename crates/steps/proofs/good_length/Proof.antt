@@ -1,12 +1,8 @@
--- `steps::good_length` meets its contract.
+-- `steps::good_length` meets its contract: the announced length, or 0.
 use mathlib.Core.Path.{sym, _∙_}
 use borrow.Author.Needs.{needs}
 use Rattle.steps.proofs.good_length.Statement.{statement}
 use Rattle.steps.proofs.good_length.Tie as tie
-use Rattle.steps.proofs.good_length.Reads as reads
-use Rattle.steps.proofs.good_length.Lts as lts
-use Rattle.steps.proofs.head_fault.Reads as head-fault-reads
-use Rattle.steps.proofs.length_of.Reads as length-of-reads
 
 returns : tie.Need-returns
 returns c = let t = c .before in

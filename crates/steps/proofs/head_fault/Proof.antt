@@ -6,11 +6,6 @@ use Rattle.steps.proofs.FaultLaws.{head-short, head-version, head-type,
 use borrow.Author.Needs.{needs}
 use Rattle.steps.proofs.head_fault.Statement.{statement}
 use Rattle.steps.proofs.head_fault.Tie as tie
-use Rattle.steps.proofs.head_fault.Reads as reads
-use Rattle.steps.proofs.head_fault.Lts as lts
-use Rattle.steps.proofs.first_byte.Reads as first-byte-reads
-use Rattle.steps.proofs.length_of.Reads as length-of-reads
-use Rattle.steps.proofs.second_byte.Reads as second-byte-reads
 
 abbrev bytes : tie.After-length-of → List ℕ
 bytes l = four (l .before .args .w)

@@ -4,13 +4,6 @@ use Rattle.steps.proofs.KindLaws.{kind-is, kind-none}
 use borrow.Author.Needs.{needs}
 use Rattle.steps.proofs.in_block.Statement.{statement}
 use Rattle.steps.proofs.in_block.Tie as tie
-use Rattle.steps.proofs.in_block.Reads as reads
-use Rattle.steps.proofs.in_block.Lts as lts
-use Rattle.records.proofs.kind_of.Reads as kind-of-reads
-use Rattle.steps.proofs.first_byte.Reads as first-byte-reads
-use Rattle.steps.proofs.length_of.Reads as length-of-reads
-use Rattle.steps.proofs.opened.Reads as opened-reads
-use Rattle.utils.proofs.above.Reads as above-reads
 
 returns : tie.Need-returns
 unfolding inBlock

@@ -3,10 +3,6 @@ use Rattle.states.specs.Steps.{inPacket}
 use borrow.Author.Needs.{needs}
 use Rattle.steps.proofs.in_packet.Statement.{statement}
 use Rattle.steps.proofs.in_packet.Tie as tie
-use Rattle.steps.proofs.in_packet.Reads as reads
-use Rattle.steps.proofs.in_packet.Lts as lts
-use Rattle.steps.proofs.length_of.Reads as length-of-reads
-use Rattle.utils.proofs.above.Reads as above-reads
 
 returns : tie.Need-returns
 unfolding inPacket

@@ -1,18 +1,9 @@
 -- `steps::lone` meets its contract: item by item.
-use mathlib.Core.Path.{sym, _∙_}
 use borrow.Author.Tests.{ne-eqb}
 use Rattle.states.specs.Steps.{loneOf}
 use borrow.Author.Needs.{needs}
 use Rattle.steps.proofs.lone.Statement.{statement}
 use Rattle.steps.proofs.lone.Tie as tie
-use Rattle.steps.proofs.lone.Reads as reads
-use Rattle.steps.proofs.lone.Lts as lts
-use Rattle.steps.proofs.fields_in.Reads as fields-in-reads
-use Rattle.steps.proofs.first_byte.Reads as first-byte-reads
-use Rattle.steps.proofs.high32.Reads as high32-reads
-use Rattle.steps.proofs.length_of.Reads as length-of-reads
-use Rattle.steps.proofs.low32.Reads as low32-reads
-use Rattle.steps.proofs.start_in.Reads as start-in-reads
 
 returns : tie.Need-returns
 unfolding loneOf

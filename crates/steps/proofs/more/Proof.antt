@@ -1,10 +1,8 @@
--- `steps::more` meets its contract.
+-- `steps::more` meets its contract: a byte more, as a number.
 use borrow.Author.Tests.{eq-eqb, ne-eqb}
 use borrow.Author.Needs.{needs}
 use Rattle.steps.proofs.more.Statement.{statement}
 use Rattle.steps.proofs.more.Tie as tie
-use Rattle.steps.proofs.more.Reads as reads
-use Rattle.steps.proofs.more.Lts as lts
 
 returns : tie.Need-returns
 returns c = rw (eq-eqb _ _ (c .if1 .taken))

@@ -1,12 +1,9 @@
--- `steps::next_block` meets its contract.
+-- `steps::next_block` meets its contract: the next block, or the end.
 use borrow.Author.Tests.{eq-eqb, ne-eqb}
 use Rattle.states.specs.Steps.{nextBlock}
 use borrow.Author.Needs.{needs}
 use Rattle.steps.proofs.next_block.Statement.{statement}
 use Rattle.steps.proofs.next_block.Tie as tie
-use Rattle.steps.proofs.next_block.Reads as reads
-use Rattle.steps.proofs.next_block.Lts as lts
-use Rattle.utils.proofs.above.Reads as above-reads
 
 returns : tie.Need-returns
 unfolding nextBlock

@@ -1,13 +1,9 @@
--- `steps::opened` meets its contract.
+-- `steps::opened` meets its contract: the next item, or what is behind the block.
 use borrow.Author.Tests.{eq-eqb, ne-eqb}
 use Rattle.states.specs.Steps.{opened}
 use borrow.Author.Needs.{needs}
 use Rattle.steps.proofs.opened.Statement.{statement}
 use Rattle.steps.proofs.opened.Tie as tie
-use Rattle.steps.proofs.opened.Reads as reads
-use Rattle.steps.proofs.opened.Lts as lts
-use Rattle.steps.proofs.next_block.Reads as next-block-reads
-use Rattle.utils.proofs.above.Reads as above-reads
 
 returns : tie.Need-returns
 unfolding opened

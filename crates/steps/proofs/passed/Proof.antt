@@ -5,19 +5,6 @@ use Rattle.states.specs.Steps.{passed}
 use borrow.Author.Needs.{needs}
 use Rattle.steps.proofs.passed.Statement.{statement}
 use Rattle.steps.proofs.passed.Tie as tie
-use Rattle.steps.proofs.passed.Reads as reads
-use Rattle.steps.proofs.passed.Lts as lts
-use Rattle.chunk.proofs.covers.Reads as covers-reads
-use Rattle.steps.proofs.first_byte.Reads as first-byte-reads
-use Rattle.steps.proofs.for_entry.Reads as for-entry-reads
-use Rattle.steps.proofs.in_block.Reads as in-block-reads
-use Rattle.steps.proofs.in_packet.Reads as in-packet-reads
-use Rattle.steps.proofs.low16.Reads as low16-reads
-use Rattle.steps.proofs.low32.Reads as low32-reads
-use Rattle.steps.proofs.moved.Reads as moved-reads
-use Rattle.steps.proofs.next_block.Reads as next-block-reads
-use Rattle.steps.proofs.opened.Reads as opened-reads
-use Rattle.steps.proofs.ranged.Reads as ranged-reads
 
 returns : tie.Need-returns
 unfolding passed
@@ -35,13 +22,15 @@ returns-4 : tie.Need-returns-4
 unfolding passed
 returns-4 c = let i = c .before .before in
     let f = i .before in
-    rw (c .opened .ensures, c .before .ranged .ensures, f .before .if4 .taken, sym (f .first-byte .ensures) ∙ i .if5 .taken)
+    let t = sym (f .first-byte .ensures) ∙ i .if5 .taken in
+    rw (c .opened .ensures, c .before .ranged .ensures, f .before .if4 .taken, t)
 
 returns-5 : tie.Need-returns-5
 unfolding passed
 returns-5 c = let i = c .before .before in
     let f = i .before in
-    rw (c .opened2 .ensures, c .before .ranged2 .ensures, f .before .if4 .taken, ne-eqb _ _ (rw (f .first-byte .ensures) at (i .if5 .left)))
+    let n = rw (f .first-byte .ensures) at (i .if5 .left) in
+    rw (c .opened2 .ensures, c .before .ranged2 .ensures, f .before .if4 .taken, ne-eqb _ _ n)
 
 returns-6 : tie.Need-returns-6
 unfolding passed

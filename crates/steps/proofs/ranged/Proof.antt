@@ -3,12 +3,6 @@ use Rattle.states.specs.Steps.{ranged}
 use borrow.Author.Needs.{needs}
 use Rattle.steps.proofs.ranged.Statement.{statement}
 use Rattle.steps.proofs.ranged.Tie as tie
-use Rattle.steps.proofs.ranged.Reads as reads
-use Rattle.steps.proofs.ranged.Lts as lts
-use Rattle.range.proofs.inside_count.Reads as inside-count-reads
-use Rattle.range.proofs.number_at.Reads as number-at-reads
-use Rattle.range.proofs.range_of.Reads as range-of-reads
-use Rattle.steps.proofs.fields_in.Reads as fields-in-reads
 
 returns : tie.Need-returns
 unfolding ranged

@@ -1,8 +1,6 @@
--- `steps::rule` meets its contract.
+-- `steps::rule` meets its contract: a length rule.
 use Rattle.steps.proofs.rule.Statement.{statement}
 use Rattle.steps.proofs.rule.Tie as tie
-use Rattle.steps.proofs.rule.Reads as reads
-use Rattle.steps.proofs.rule.Lts as lts
 
 returns : tie.Need-returns
 returns c = rw (c .if1 .taken)

@@ -5,11 +5,6 @@ use Rattle.steps.proofs.KindLaws.{kind-is, kind-none}
 use borrow.Author.Needs.{needs}
 use Rattle.steps.proofs.rule_of.Statement.{statement}
 use Rattle.steps.proofs.rule_of.Tie as tie
-use Rattle.steps.proofs.rule_of.Reads as reads
-use Rattle.steps.proofs.rule_of.Lts as lts
-use Rattle.records.proofs.kind_of.Reads as kind-of-reads
-use Rattle.steps.proofs.rule.Reads as rule-reads
-use Rattle.utils.proofs.above.Reads as above-reads
 
 returns : tie.Need-returns
 unfolding standardRule
@@ -21,7 +16,10 @@ returns-2 : tie.Need-returns-2
 unfolding standardRule
 returns-2 c = let t = c .before in
     let k = t .before .before .before in
-    rw (c .rule2 .ensures, kind-is (k .before .before .kind-of .ensures) refl (k .k .given .1) (t .enum-told2 .given .1))
+    rw (
+      c .rule2 .ensures,
+      kind-is (k .before .before .kind-of .ensures) refl (k .k .given .1) (t .enum-told2 .given .1),
+    )
 
 returns-3 : tie.Need-returns-3
 unfolding standardRule

@@ -3,8 +3,6 @@ use mathlib.Core.Path.{refl}
 use Rattle.states.specs.Steps.{start}
 use Rattle.steps.proofs.start.Statement.{statement}
 use Rattle.steps.proofs.start.Tie as tie
-use Rattle.steps.proofs.start.Reads as reads
-use Rattle.steps.proofs.start.Lts as lts
 
 returns : tie.Need-returns
 unfolding start

@@ -3,11 +3,6 @@ use Rattle.steps.proofs.KindLaws.{kind-is, kind-none}
 use borrow.Author.Needs.{needs}
 use Rattle.steps.proofs.start_in.Statement.{statement}
 use Rattle.steps.proofs.start_in.Tie as tie
-use Rattle.steps.proofs.start_in.Reads as reads
-use Rattle.steps.proofs.start_in.Lts as lts
-use Rattle.records.proofs.kind_of.Reads as kind-of-reads
-use Rattle.steps.proofs.first_byte.Reads as first-byte-reads
-use Rattle.steps.proofs.length_of.Reads as length-of-reads
 
 returns : tie.Need-returns
 returns c = let k = c .before .before .before in

@@ -1,14 +1,9 @@
--- `steps::weight` meets its contract.
+-- `steps::weight` meets its contract: a word's ones, or at most one event.
 use mathlib.Core.Path.{sym, _∙_}
 use Rattle.steps.proofs.WeightLaws.{weight-word, weight-lone}
 use borrow.Author.Needs.{needs}
 use Rattle.steps.proofs.weight.Statement.{statement}
 use Rattle.steps.proofs.weight.Tie as tie
-use Rattle.steps.proofs.weight.Reads as reads
-use Rattle.steps.proofs.weight.Lts as lts
-use Rattle.chunk.proofs.ones_before.Reads as ones-before-reads
-use Rattle.steps.proofs.lone.Reads as lone-reads
-use Rattle.steps.proofs.low16.Reads as low16-reads
 
 returns : tie.Need-returns
 returns c = let l = c .before in
