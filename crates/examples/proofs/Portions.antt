@@ -58,6 +58,8 @@ so-far-hold =
       blocks = (refl, refl, refl, refl, refl, refl, refl);
       last = (refl, refl, refl);
       smallest = refl;
+      own = refl;
+      no-fuel = refl;
       seven = (refl, refl, refl);
       six = (refl, refl);
     }

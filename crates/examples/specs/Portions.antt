@@ -12,7 +12,7 @@ use Rattle.def_standard.specs.declared.Echo.{Echo}
 use Rattle.def_portions.specs.declared.Event.{Event}
 use Rattle.def_portions.specs.declared.Event.the-variants.{Header, Start, Ranged as RangedStart, Number, Pair}
 use Rattle.def_portions.specs.declared.Event.the-variants.{Entry, Time, End}
-use Rattle.def_portions.specs.Events.{headFault, blockFault, blockEvents, courseOf, course, quiet}
+use Rattle.def_portions.specs.Events.{headFault, blockFault, blockEvents, blocksFrom, courseOf, course, quiet}
 use Rattle.examples.specs.Rows.{rows, packet, padded, fields}
 
 -- a number and its time; whose echo, last, delay; a clock time
@@ -168,6 +168,10 @@ pub record SoFar : Type 0 where
   -- as many blocks as can be
   pub smallest : courseOf (packet (0x63000000 ∷ 0x62000000 ∷ 0x61000000 ∷ []))
       ≡ course (Header 20 1 ∷ Start 99 4 ∷ Start 98 4 ∷ Start 97 4 ∷ End ∷ []) Fine
+  -- a block shows its own bytes, not those behind it
+  pub own : courseOf (packet (0x01000002 ∷ 7 ∷ 0 ∷ 0x63000000 ∷ []))
+      ≡ course (Header 24 1 ∷ RangedStart 1 12 (fields 7 0 0 0) ∷ Start 99 4 ∷ End ∷ []) Fine
+  pub no-fuel : blocksFrom (packet []) 8 0 8 ≡ quiet
   -- 7 and 6 at a block's fourth byte: its start is not told, nor what is behind it
   pub seven :
       (courseOf (take 15 bad-rule) ≡ course (Header 32 1 ∷ Start 99 4 ∷ []) Fine)
