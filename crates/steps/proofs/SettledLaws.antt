@@ -1,0 +1,48 @@
+-- An item that may be complete: the state behind it and its events, by what is known of it. The one place that unfolds
+-- `settled` and `settledEvents`. Assumes nothing.
+use mathlib.Core.Path.{_≡_}
+use mathlib.Core.List.{[], _∷_, _++_, append-nil}
+use borrow.Author.Tests.{eq-eqb, ne-eqb}
+use Rattle.def_refusals.specs.declared.Refusal.{Refusal}
+use Rattle.def_refusals.specs.declared.Checked.{Checked}
+use Rattle.def_refusals.specs.declared.Checked.the-variants.{Fine, Unfit}
+use Rattle.def_portions.specs.declared.Event.the-variants.{End}
+use Rattle.states.specs.declared.Portions.{Portions}
+use Rattle.states.specs.Steps.{over, itemFault, faultOf, passed, shownBy, settled, settledEvents}
+
+-- bytes are missing
+module _ (st : Portions) (n : st .missing ≡ 0 → ⊥) where
+  pub settled-open : settled st ≡ st
+  unfolding settled
+  settled-open = rw (ne-eqb _ _ n)
+
+  pub events-open : settledEvents st ≡ []
+  unfolding settledEvents
+  events-open = rw (ne-eqb _ _ n)
+
+-- none is
+module _ (st : Portions) (e : st .missing ≡ 0) where
+  fault-is : (x : Checked) → faultOf st ≡ x → itemFault st ≡ x
+  unfolding faultOf
+  fault-is x f = rw e at f
+
+  pub settled-fine : faultOf st ≡ Fine → settled st ≡ passed st
+  unfolding settled
+  settled-fine f = rw (eq-eqb _ _ e, fault-is Fine f)
+
+  -- the end is shown where the packet is over
+  pub events-over : faultOf st ≡ Fine → passed st .item ≡ over → settledEvents st ≡ shownBy st ++ (End ∷ [])
+  unfolding settledEvents
+  events-over f o = rw (eq-eqb _ _ e, fault-is Fine f, o)
+
+  pub events-more : faultOf st ≡ Fine → (passed st .item ≡ over → ⊥) → settledEvents st ≡ shownBy st
+  unfolding settledEvents
+  events-more f n = rw (eq-eqb _ _ e, fault-is Fine f, ne-eqb _ _ n, append-nil)
+
+  pub settled-unfit : (x : Refusal) → faultOf st ≡ Unfit x → settled st ≡ st
+  unfolding settled
+  settled-unfit x f = rw (eq-eqb _ _ e, fault-is (Unfit x) f)
+
+  pub events-unfit : (x : Refusal) → faultOf st ≡ Unfit x → settledEvents st ≡ []
+  unfolding settledEvents
+  events-unfit x f = rw (eq-eqb _ _ e, fault-is (Unfit x) f)
