@@ -1,15 +1,12 @@
 // What xrprobe answers of a packet in portions (README, "xrprobe", kind 12): one call for each size, each from the first
 // byte that no call has taken on, and one more for what is then left. For each call its events' lines are added to the
 // buffer, then what it took or its refusal. `calls` promises that it has added exactly def_probe's text.
-ghost use Prim.Native.Nat.{ℕ, _<_};
+ghost use Prim.Native.Nat.{_<_};
 ghost use mathlib.Core.Path.{_≡_};
-ghost use mathlib.Core.List.{_++_, []};
-ghost use lib.ListN.{length};
-ghost use Rattle.def_wire.specs.Bytes.{byteAt};
-ghost use Rattle.def_questions.specs.Questions.{least3};
 ghost use Rattle.def_text.specs.Buffer.{Added};
 ghost use Rattle.def_dump.specs.EventLines.{givenLine};
-ghost use Rattle.def_probe.specs.Requests.{mostListed, sizesAt, callsText, portionsText};
+ghost use Rattle.def_probe.specs.Requests.{portionsText};
+ghost use Rattle.ask_portions.specs.Told.{AllBytes};
 use def_refusals::Checked;
 use states::Portions;
 
@@ -32,7 +29,7 @@ fn is_byte(b: u8) -> bool
 
 // So each number in a slice of bytes is: nothing is computed, and the compiler leaves the loop out.
 fn are_bytes(s: &[u8])
-    ensures { λ _. ⌜ (i : ℕ) → byteAt (now (s .entry)) i < 256 ⌝ }
+    ensures { λ _. ⌜ AllBytes (now (s .entry)) ⌝ }
 {
     let mut i: usize = 0;
     while i < s.len() {
@@ -95,7 +92,15 @@ fn calls_into(
     let mut i: usize = 0;
     while i < n {
         let size = little_endian::u32_from_le_bytes(p, 6 + 4 * i) as usize;
-        let t = one(st, utils::part(x, from, size), tags, numbers, values, buf, to);
+        let t = one(
+            st,
+            utils::part(x, from, size),
+            tags,
+            numbers,
+            values,
+            buf,
+            to,
+        );
         st = t.state;
         from += t.taken;
         to = t.at;
