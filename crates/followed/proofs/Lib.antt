@@ -1,0 +1,2 @@
+-- ItemRun (one item, and what is behind it).
+pub mod ItemRun
