@@ -3,6 +3,7 @@
 --     next-block      a block begins
 --     ending-none     behind the block's last byte; of what the block left only the announced length counts
 --     ending-more     bytes of the block, and then others
+--     opened-item     the next item of a block; opened-none, where there is none
 --     ending-open     more bytes of the block are to come
 use Prim.Native.Nat.{ℕ, _+_, _-_, _≤_, _<_}
 use mathlib.Core.Path.{_≡_, refl, sym, ap, _∙_}
@@ -20,7 +21,7 @@ use Rattle.def_refusals.specs.declared.Checked.the-variants.{Fine, Unfit}
 use Rattle.def_portions.specs.declared.Event.the-variants.{End}
 use Rattle.def_portions.specs.Events.{course, quiet}
 use Rattle.states.specs.declared.Known.{Known}
-use Rattle.states.specs.Steps.{state, block, known, heldOver, itemFault, nextBlock, passed, shownBy, loneOf}
+use Rattle.states.specs.Steps.{state, block, over, known, itemFault, nextBlock, opened, passed, shownBy, loneOf}
 use Rattle.followed.specs.Run.{runOf, opening, ending}
 use Rattle.followed.proofs.ItemRun.{whole, item-open, item-passed, item-refused, over-run}
 
@@ -79,13 +80,24 @@ pub ending-none : (k : Known) (behind : ℕ) (bs : List ℕ)
 unfolding ending
 ending-none k behind bs = rw (le-ltb (length bs) 0 (omega arith)) (next-bare k behind bs)
 
-pub ending-more : (announced rest behind : ℕ) (bs x : List ℕ)
-    → ending announced (length bs + rest) behind (bs ++ x) ≡ ending announced rest behind x
+pub ending-more : (announced n rest behind : ℕ) (bs x : List ℕ) → length bs ≡ n
+    → ending announced (n + rest) behind (bs ++ x) ≡ ending announced rest behind x
 unfolding ending
-ending-more announced rest behind bs x =
-    rw (length-append bs x, drop-append-add bs x rest, ltb-shift (length bs) (length x) rest)
+ending-more announced n rest behind bs x e =
+    rw (← e, length-append bs x, drop-append-add bs x rest, ltb-shift (length bs) (length x) rest)
 
 pub ending-open : (announced rest behind : ℕ) (bs : List ℕ) → length bs < rest
     → ending announced rest behind bs ≡ quiet
 unfolding ending
 ending-open announced rest behind bs h = rw (lt-ltb _ _ h)
+
+-- the next item of a block, where bytes are left for it; else what is behind the block
+module _ (k : Known) (rest behind item size : ℕ) (bs : List ℕ) where
+  pub opened-item : eqb item over ≡ false → 0 < rest
+      → opening (opened k rest behind item size) bs ≡ runOf (state item size 0 (rest - size) behind k) bs
+  unfolding opened opening
+  opened-item o h = rw (ne-eqb rest 0 (λ (e : rest ≡ 0). absurd (omega arith)), o)
+
+  pub opened-none : rest ≡ 0 → opening (opened k rest behind item size) bs ≡ ending (k .announced) 0 behind bs
+  unfolding opened
+  opened-none e = rw e (ending-none k behind bs)

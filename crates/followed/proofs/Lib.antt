@@ -1,4 +1,6 @@
--- ItemRun (one item, and what is behind it), BehindRun (what comes behind a block), ValueLaws (what is held).
+-- ItemRun (one item, and what is behind it), BehindRun (what comes behind a block), ValueLaws (what is held), UnitsRun
+-- (units of so many bytes in a row).
 pub mod ItemRun
 pub mod BehindRun
 pub mod ValueLaws
+pub mod UnitsRun
