@@ -1,6 +1,7 @@
 -- ItemRun (one item, and what is behind it), BehindRun (what comes behind a block), ValueLaws (what is held), UnitsRun
--- (units of so many bytes in a row).
+-- (units of so many bytes in a row), WordsRun, TimesRun, EntriesRun (words, times and entries in a row).
 pub mod ItemRun
 pub mod BehindRun
 pub mod ValueLaws
 pub mod UnitsRun
+pub mod WordsRun

@@ -31,7 +31,13 @@ bytes-take n s b i =
 pub bytes-drop : (n : ℕ) (s : List ℕ) → Bytes s → Bytes (drop n s)
 bytes-drop n s b i = rw (getD-drop n s i 0) (b (n + i))
 
--- ---- lists of four and of eight
+-- ---- lists of two, four and eight
+
+pub by-two : (P : List ℕ → Type 0) → ((a b : ℕ) → P (a ∷ b ∷ [])) → (s : List ℕ) → length s ≡ 2 → P s
+by-two P f [] e = absurd (omega arith)
+by-two P f (a ∷ []) e = absurd (omega arith)
+by-two P f (a ∷ b ∷ []) e = f a b
+by-two P f (a ∷ b ∷ x ∷ s) e = absurd (omega arith)
 
 pub by-four : (P : List ℕ → Type 0) → ((a b c d : ℕ) → P (a ∷ b ∷ c ∷ d ∷ [])) → (s : List ℕ) → length s ≡ 4 → P s
 by-four P f [] e = absurd (omega arith)
@@ -74,10 +80,13 @@ module _ (item : ℕ) (o : eqb item skipped ≡ false) where
       ∙ held-cons (((h * 256 + a) * 256 + b) * 256 + c) d bs (omega arith)
       ∙ ap (λ (x : ℕ). heldOver item x bs) e
 
-  pub held-two : (x y : ℕ) → x < 256 → y < 256 → low16 (heldOver item 0 (x ∷ y ∷ [])) ≡ x * 256 + y
+  pub held-two : (s : List ℕ) → length s ≡ 2 → Bytes s → low16 (heldOver item 0 s) ≡ be16 s 0
   unfolding heldOver
-  held-two x y i j =
-      rw (held-cons 0 x (y ∷ []) (omega arith), held-cons (0 * 256 + x) y [] (omega arith)) (omega arith)
+  held-two =
+      by-two (λ s. Bytes s → low16 (heldOver item 0 s) ≡ be16 s 0)
+      (λ a b y. let i : a < 256 = y 0 in
+      let j : b < 256 = y 1 in
+      rw (held-cons 0 a (b ∷ []) (omega arith), held-cons (0 * 256 + a) b [] (omega arith)) (omega arith))
 
   pub held-four : (s : List ℕ) → length s ≡ 4 → Bytes s → heldOver item 0 s ≡ be32 s 0
   unfolding heldOver
