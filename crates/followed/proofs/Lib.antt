@@ -5,3 +5,4 @@ pub mod BehindRun
 pub mod ValueLaws
 pub mod UnitsRun
 pub mod WordsRun
+pub mod TimesRun
