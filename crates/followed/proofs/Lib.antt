@@ -6,3 +6,4 @@ pub mod ValueLaws
 pub mod UnitsRun
 pub mod WordsRun
 pub mod TimesRun
+pub mod EntriesRun
