@@ -7,3 +7,4 @@ pub mod UnitsRun
 pub mod WordsRun
 pub mod TimesRun
 pub mod EntriesRun
+pub mod RangedRun
