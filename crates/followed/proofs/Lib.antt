@@ -8,3 +8,5 @@ pub mod WordsRun
 pub mod TimesRun
 pub mod EntriesRun
 pub mod RangedRun
+pub mod KindLaws
+pub mod BlockRun
