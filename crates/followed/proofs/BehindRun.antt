@@ -4,7 +4,7 @@
 --     ending-none     behind the block's last byte; of what the block left only the announced length counts
 --     ending-more     bytes of the block, and then others
 --     opened-item     the next item of a block; opened-none, where there is none
---     ending-open     more bytes of the block are to come
+--     ending-done     the block's bytes have all come; ending-open, more of them are to come
 use Prim.Native.Nat.{ℕ, _+_, _-_, _≤_, _<_}
 use mathlib.Core.Path.{_≡_, refl, sym, ap, _∙_}
 use mathlib.Core.Bool.{true, false}
@@ -85,6 +85,11 @@ pub ending-more : (announced n rest behind : ℕ) (bs x : List ℕ) → length b
 unfolding ending
 ending-more announced n rest behind bs x e =
     rw (← e, length-append bs x, drop-append-add bs x rest, ltb-shift (length bs) (length x) rest)
+
+pub ending-done : (announced rest behind : ℕ) (bs : List ℕ) → rest ≤ length bs
+    → ending announced rest behind bs ≡ opening (nextBlock (known announced 0 0 0 0) behind) (drop rest bs)
+unfolding ending
+ending-done announced rest behind bs h = rw (le-ltb _ _ h)
 
 pub ending-open : (announced rest behind : ℕ) (bs : List ℕ) → length bs < rest
     → ending announced rest behind bs ≡ quiet

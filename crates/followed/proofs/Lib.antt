@@ -9,4 +9,6 @@ pub mod TimesRun
 pub mod EntriesRun
 pub mod RangedRun
 pub mod KindLaws
+pub mod KindRun
 pub mod BlockRun
+pub mod BlocksRun
