@@ -12,3 +12,4 @@ pub mod KindLaws
 pub mod KindRun
 pub mod BlockRun
 pub mod BlocksRun
+pub mod CourseRun
