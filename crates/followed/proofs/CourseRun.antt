@@ -25,7 +25,7 @@ use Rattle.states.specs.declared.Known.{Known}
 use Rattle.states.specs.Steps.{state, head, sender, known, start, heldOver, low32, itemFault, passed, shownBy, loneOf}
 use Rattle.states.specs.Steps.{nextBlock, inPacket, after, shows, faultOf}
 use Rattle.followed.specs.Run.{runOf, opening}
-use Rattle.followed.proofs.ItemRun.{whole, item-open, item-passed, item-refused}
+use Rattle.followed.proofs.ItemRun.{whole, item-open, item-passed, item-refused, item-behind}
 use Rattle.followed.proofs.ValueLaws.{by-four, held-four, be32-lt, four-held, bytes-take, bytes-drop}
 use Rattle.followed.proofs.BlockRun.{both-fine, need-fine}
 use Rattle.followed.proofs.BlocksRun.{blocks}
@@ -54,8 +54,8 @@ module _ (a b c d : ℕ) (x : List ℕ) (y : Bytes (a ∷ b ∷ c ∷ d ∷ x)) 
   abbrev kn : Known
   kn = known (announcedOf s) 0 0 0 0
 
-  back : four (low32 (heldOver head 0 hd)) ≡ hd
-  back =
+  pub header-back : four (low32 (heldOver head 0 hd)) ≡ hd
+  header-back =
       let z : Bytes hd = bytes-take 4 s y in
       let v : low32 (heldOver head 0 hd) ≡ be32 hd 0 =
       rw (held-four head refl hd refl z) (mod-eq-of-lt (be32-lt hd 0 z)) in
@@ -63,9 +63,9 @@ module _ (a b c d : ℕ) (x : List ℕ) (y : Bytes (a ∷ b ∷ c ∷ d ∷ x)) 
 
   fault-held : itemFault (whole head 4 0 0 (known 0 0 0 0 0) hd) ≡ headFault s
   unfolding headFault
-  fault-held = ap headFault back
+  fault-held = ap headFault header-back
 
-  head-refused : (r : Refusal) → headFault s ≡ Unfit r → runOf start s ≡ course [] (Unfit r)
+  pub head-refused : (r : Refusal) → headFault s ≡ Unfit r → runOf start s ≡ course [] (Unfit r)
   unfolding start
   head-refused r f = item-refused head 4 0 0 (known 0 0 0 0 0) hd x (omega arith) refl r (fault-held ∙ f)
 
@@ -73,7 +73,14 @@ module _ (a b c d : ℕ) (x : List ℕ) (y : Bytes (a ∷ b ∷ c ∷ d ∷ x)) 
   unfolding start passed shownBy loneOf inPacket opening
   head-passed f =
       item-passed head 4 0 0 (known 0 0 0 0 0) hd x (omega arith) refl (fault-held ∙ f)
-      ∙ ap (λ (v : List ℕ). runOf (state sender 4 0 0 (announcedOf v - 8) (known (announcedOf v) 0 0 0 0)) x) back
+      ∙ ap (λ (v : List ℕ). runOf (state sender 4 0 0 (announcedOf v - 8) (known (announcedOf v) 0 0 0 0)) x) header-back
+
+  -- the state there
+  pub head-after : headFault s ≡ Fine → after start s ≡ after (state sender 4 0 0 (announcedOf s - 8) kn) x
+  unfolding start passed inPacket
+  head-after f =
+      item-behind head 4 0 0 (known 0 0 0 0 0) hd x (omega arith) refl (fault-held ∙ f)
+      ∙ ap (λ (v : List ℕ). after (state sender 4 0 0 (announcedOf v - 8) (known (announcedOf v) 0 0 0 0)) x) header-back
 
   head-open : length x < 4 → headFault s ≡ Fine → runOf start s ≡ quiet
   head-open h f = head-passed f ∙ item-open sender 4 0 (announcedOf s - 8) kn x h

@@ -3,6 +3,7 @@
 --     item-open       bytes of an item of which more are missing show nothing
 --     item-passed     a complete item shows its events, and then what is behind it
 --     item-refused    or the refusal that it shows, and nothing behind it
+--     item-kept, item-behind     the state in the two cases
 --     over-run        behind the packet nothing is shown
 use Prim.Native.Nat.{ℕ, _+_, _-_, _≤_, _<_}
 use mathlib.Core.Path.{_≡_, refl, sym, ap, _∙_}
@@ -32,7 +33,7 @@ module _ (item n rest behind : ℕ) (k : Known) where
   abbrev pub whole : List ℕ → Portions
   whole bs = state item 0 (heldOver item 0 bs) rest behind k
 
-  abbrev fresh : Portions
+  abbrev pub fresh : Portions
   fresh = state item n 0 rest behind k
 
   item-run : (bs x : List ℕ) → 0 < n → length bs ≤ n
@@ -46,7 +47,21 @@ module _ (item n rest behind : ℕ) (k : Known) where
       let f : eqb (n - length bs) 0 ≡ false = ne-eqb _ _ (λ (e : n - length bs ≡ 0). absurd (omega arith)) in
       ap (runOf fresh) (sym (append-nil bs)) ∙ item-run bs [] (omega arith) (omega arith) ∙ (rw (f, f))
 
+  -- the state where bytes are missing, and behind a complete item
+  pub item-kept : (bs : List ℕ) → length bs < n → after (state item n 0 rest behind k) bs ≡ holds fresh bs
+  unfolding settled after
+  item-kept bs h =
+      let f : eqb (n - length bs) 0 ≡ false = ne-eqb _ _ (λ (e : n - length bs ≡ 0). absurd (omega arith)) in
+      ap (after fresh) (sym (append-nil bs)) ∙ item-after [] fresh bs (omega arith) (omega arith) ∙ (rw f)
+
   module _ (bs x : List ℕ) (h : 0 < n) (e : length bs ≡ n) where
+    pub item-behind : itemFault (whole bs) ≡ Fine
+        → after (state item n 0 rest behind k) (bs ++ x) ≡ after (passed (whole bs)) x
+    unfolding settled
+    item-behind f =
+        let z : n - length bs ≡ 0 = omega arith in
+        item-after x fresh bs h (omega arith) ∙ (rw (z, f))
+
     pub item-passed : itemFault (whole bs) ≡ Fine
         → runOf (state item n 0 rest behind k) (bs ++ x) ≡ then (shownBy (whole bs)) (opening (passed (whole bs)) x)
     unfolding settled settledEvents opening

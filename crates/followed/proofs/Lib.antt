@@ -13,3 +13,6 @@ pub mod KindRun
 pub mod BlockRun
 pub mod BlocksRun
 pub mod CourseRun
+pub mod GoingLaws
+pub mod PastLaws
+pub mod CallLaws

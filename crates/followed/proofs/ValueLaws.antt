@@ -9,7 +9,7 @@ use mathlib.Core.List.{List, [], _∷_, _++_}
 use native.Mathlib.Nat.{mod-eq-of-lt, zero-add}
 use native.Mathlib.Omega.{arith}
 use lib.ListN.{length, getD, take, drop, length-take, length-drop, take-append-drop, List·getD-eq-default}
-use lib.Seq.{getD-take, getD-drop, length-take-le}
+use lib.Seq.{take-append-seam, getD-take, getD-drop, length-take-le}
 use lib.Dec.{ltb, eqb}
 use borrow.Author.Tests.{ltb-true, ltb-false}
 use Rattle.laws.proofs.Tests.{either}
@@ -30,6 +30,9 @@ bytes-take n s b i =
 
 pub bytes-drop : (n : ℕ) (s : List ℕ) → Bytes s → Bytes (drop n s)
 bytes-drop n s b i = rw (getD-drop n s i 0) (b (n + i))
+
+pub bytes-front : (s t : List ℕ) → Bytes (s ++ t) → Bytes s
+bytes-front s t y = rw (take-append-seam s t) at (bytes-take (length s) (s ++ t) y)
 
 -- ---- lists of two, four and eight
 
