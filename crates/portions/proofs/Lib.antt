@@ -1,0 +1,2 @@
+-- ItemLaws (the events of a complete item, as they are stored).
+pub mod ItemLaws
