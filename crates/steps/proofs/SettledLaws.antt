@@ -1,14 +1,17 @@
 -- An item that may be complete: the state behind it and its events, by what is known of it. The one place that unfolds
 -- `settled` and `settledEvents`. Assumes nothing.
+use Prim.Native.Nat.{_≤_}
 use mathlib.Core.Path.{_≡_}
 use mathlib.Core.List.{[], _∷_, _++_, append-nil}
+use native.Mathlib.Omega.{arith}
+use lib.ListN.{length, length-append}
 use borrow.Author.Tests.{eq-eqb, ne-eqb}
 use Rattle.def_refusals.specs.declared.Refusal.{Refusal}
 use Rattle.def_refusals.specs.declared.Checked.{Checked}
 use Rattle.def_refusals.specs.declared.Checked.the-variants.{Fine, Unfit}
 use Rattle.def_portions.specs.declared.Event.the-variants.{End}
 use Rattle.states.specs.declared.Portions.{Portions}
-use Rattle.states.specs.Steps.{over, itemFault, faultOf, passed, shownBy, settled, settledEvents}
+use Rattle.states.specs.Steps.{over, itemFault, faultOf, passed, shownBy, endIn, settled, settledEvents}
 
 -- bytes are missing
 module _ (st : Portions) (n : st .missing ≡ 0 → ⊥) where
@@ -29,6 +32,11 @@ module _ (st : Portions) (e : st .missing ≡ 0) where
   pub settled-fine : faultOf st ≡ Fine → settled st ≡ passed st
   unfolding settled
   settled-fine f = rw (eq-eqb _ _ e, fault-is Fine f)
+
+  pub shown-le : faultOf st ≡ Fine → length (shownBy st) ≤ length (settledEvents st)
+  unfolding settledEvents
+  shown-le f =
+      rw (eq-eqb _ _ e, fault-is Fine f) (omega (arith, length-append (shownBy st) (endIn (passed st))))
 
   -- the end is shown where the packet is over
   pub events-over : faultOf st ≡ Fine → passed st .item ≡ over → settledEvents st ≡ shownBy st ++ (End ∷ [])
