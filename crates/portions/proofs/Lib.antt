@@ -1,2 +1,3 @@
--- ItemLaws (the events of a complete item, as they are stored).
+-- ItemLaws (the events of a complete item, as they are stored), StoreTurn (some bytes, item by item).
 pub mod ItemLaws
+pub mod StoreTurn
