@@ -21,4 +21,6 @@ pub mod Portions
 pub mod PortionCalls
 pub mod Text
 pub mod Dump
+pub mod EventLines
 pub mod Probe
+pub mod ProbePortions
