@@ -58,9 +58,9 @@ module _ {st : Portions} {x t₀ u₀ v₀ : List ℕ} where
       room h =
           let l = w .stored in
           let a = length-append (w .shown) (settledEvents (holds s (part x at m))
-              ++ shows (settled (holds s (part x at m))) (drop (at + m) x)) in
+          ++ shows (settled (holds s (part x at m))) (drop (at + m) x)) in
           let b = length-append (settledEvents (holds s (part x at m)))
-              (shows (settled (holds s (part x at m))) (drop (at + m) x)) in
+          (shows (settled (holds s (part x at m))) (drop (at + m) x)) in
           omega (arith, ap length whole, a, b, l .past, same-tags l, same-numbers l, same-values l)
 
       pub onward : {t1 u1 v1 : List ℕ} {s1 : Portions} {n1 : ℕ} → s1 ≡ settled (holds s (part x at m))
@@ -84,8 +84,7 @@ module _ {st : Portions} {x t₀ u₀ v₀ : List ℕ} where
 
     pub closed : s .missing ≡ 0 → (s ≡ after st x) × Laid (shows st x) 0 t₀ u₀ v₀ t u v n
     closed z =
-        let e = shows-closed s z (drop at x) in
-        (
+        let e = shows-closed s z (drop at x) in (
           sym (after-closed s z (drop at x)) ∙ w .state,
           laid-as (sym (append-nil (w .shown)) ∙ (rw e at (w .rest))) (w .stored),
         )

@@ -5,13 +5,16 @@ use mathlib.Core.Path.{_≡_}
 use mathlib.Core.List.{[], _∷_, _++_, append-nil}
 use native.Mathlib.Omega.{arith}
 use lib.ListN.{length, length-append}
+use lib.Dec.{eqb}
 use borrow.Author.Tests.{eq-eqb, ne-eqb}
+use Rattle.laws.proofs.Tests.{either}
 use Rattle.def_refusals.specs.declared.Refusal.{Refusal}
 use Rattle.def_refusals.specs.declared.Checked.{Checked}
 use Rattle.def_refusals.specs.declared.Checked.the-variants.{Fine, Unfit}
 use Rattle.def_portions.specs.declared.Event.the-variants.{End}
 use Rattle.states.specs.declared.Portions.{Portions}
-use Rattle.states.specs.Steps.{over, itemFault, faultOf, passed, shownBy, endIn, settled, settledEvents}
+use Rattle.states.specs.Steps.{over, itemFault, faultOf, passed, shownBy, endIn, shownOn, settled, settledEvents}
+use Rattle.steps.proofs.WeightLaws.{weight-most}
 
 -- bytes are missing
 module _ (st : Portions) (n : st .missing ≡ 0 → ⊥) where
@@ -54,3 +57,22 @@ module _ (st : Portions) (e : st .missing ≡ 0) where
   pub events-unfit : (x : Refusal) → faultOf st ≡ Unfit x → settledEvents st ≡ []
   unfolding settledEvents
   events-unfit x f = rw (eq-eqb _ _ e, fault-is (Unfit x) f)
+
+-- a word's numbers and the end at most
+end-most : (st : Portions) → length (endIn st) ≤ 1
+end-most st = either (eqb (st .item) over) (λ t. rw t (omega arith)) (λ f. rw f (omega arith))
+
+on-most : (x : Checked) (st : Portions) → length (shownOn x st) ≤ 16384
+on-most Fine st =
+    omega (
+      arith,
+      length-append (shownBy st) (endIn (passed st)),
+      weight-most st,
+      end-most (passed st),
+    )
+on-most (Unfit x) st = omega arith
+
+pub events-most : (st : Portions) → length (settledEvents st) ≤ 16384
+unfolding settledEvents
+events-most st =
+    either (eqb (st .missing) 0) (λ t. rw t (on-most (itemFault st) st)) (λ f. rw f (omega arith))

@@ -35,14 +35,14 @@ numbers c =
     numbers-stored (s .known) (s .held) _ _ _ (d .before .thinning-of .ensures) (d .doubled .ensures) (c .low16 .ensures)
 
 put-word-requires : tie.Need-put-word-requires
-put-word-requires c κs = 
+put-word-requires c κs =
     let i = tested c in
     let s = start (i .before) in
     let k = length-word (s .args .st) _ (i .if1 .taken) (numbers c) in
     (omega (arith, k, s .pre), omega (arith, k, s .pre))
 
 returns : tie.Need-returns
-returns c = 
+returns c =
     let w = c .before .before .before .before in
     let l = w .before in
     let i = tested l in
@@ -50,7 +50,7 @@ returns c =
     word-laid (start (i .before) .args .st) _ (i .if1 .taken) (numbers l) (p .0) (p .1 .0) (p .1 .1)
 
 put-requires : tie.Need-put-requires
-put-requires c κs = 
+put-requires c κs =
     let e = c .before .before .before .before in
     let l = e .before .before in
     let s = start (l .before .before) in
@@ -58,7 +58,7 @@ put-requires c κs =
     (omega (arith, k, s .pre), omega (arith, k, s .pre), omega (arith, k, s .pre))
 
 returns-2 : tie.Need-returns-2
-returns-2 c = 
+returns-2 c =
     let p = c .before .before .before .before .before .before in
     let e = p .before .before .before .before .before in
     let l = e .before .before in
@@ -66,7 +66,7 @@ returns-2 c =
     lone-laid (s .args .st) (l .before .if1 .left) _ (sym (l .lone .ensures) ∙ e .e .given .1) (p .put .ensures)
 
 returns-3 : tie.Need-returns-3
-returns-3 c = 
+returns-3 c =
     let l = c .before .before in
     let s = start (l .before .before) in
     nothing-laid (s .args .st) (l .before .if1 .left) (sym (l .lone .ensures) ∙ c .enum-told .given .1)

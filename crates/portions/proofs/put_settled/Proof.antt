@@ -43,61 +43,58 @@ is-over : (c : tie.Then2) → let n = c .before .before in
 is-over c = rw (c .before .before .passed .ensures) at (c .if2 .taken)
 
 returns : tie.Need-returns
-returns c = 
+returns c =
     let s = start (c .before) .args .st in
     (sym (settled-open s (c .if1 .taken)), laid-as (sym (events-open s (c .if1 .taken))) laid-none)
 
 put-item-requires : tie.Need-put-item-requires
-put-item-requires c κs = 
+put-item-requires c κs =
     let t = c .before .before .before in
     let o = complete t in
     let s = start (o .before) in
     omega (arith, s .pre, shown-le (s .args .st) (o .if1 .left) (fine t))
 
 put-requires : tie.Need-put-requires
-put-requires c κs = 
+put-requires c κs =
     let i = c .before .before .before in
     let p = stored (i .before .before) in
     let t = told p in
     let o = complete t in
     let s = start (o .before) in
     let l = p .put-item .ensures in
-    let k = ap length (events-over (s .args .st) (o .if1 .left) (fine t) (is-over i)) ∙ length-append (shownBy (s .args .st)) (End ∷ []) in
-    (
+    let k = ap length (events-over (s .args .st) (o .if1 .left) (fine t) (is-over i)) ∙ length-append (shownBy (s .args .st)) (End ∷ []) in (
       omega (arith, s .pre, k, l .past, same-tags l),
       omega (arith, s .pre, k, l .past, same-numbers l),
       omega (arith, s .pre, k, l .past, same-values l),
     )
 
 returns-2 : tie.Need-returns-2
-returns-2 c = 
+returns-2 c =
     let q = c .before .before .before .before .before .before in
     let i = q .before .before .before .before in
     let n = i .before .before in
     let p = stored n in
     let t = told p in
     let o = complete t in
-    let s = start (o .before) .args .st in
-    (
+    let s = start (o .before) .args .st in (
       n .passed .ensures ∙ sym (settled-fine s (o .if1 .left) (fine t)),
       laid-as (sym (events-over s (o .if1 .left) (fine t) (is-over i))) (and-then (p .put-item .ensures) (q .put .ensures)),
     )
 
 returns-3 : tie.Need-returns-3
-returns-3 c = 
+returns-3 c =
     let n = c .before .before in
     let p = stored n in
     let t = told p in
     let o = complete t in
     let s = start (o .before) .args .st in
-    let m = rw (n .passed .ensures) at (c .if2 .left) in
-    (
+    let m = rw (n .passed .ensures) at (c .if2 .left) in (
       n .passed .ensures ∙ sym (settled-fine s (o .if1 .left) (fine t)),
       laid-as (sym (events-more s (o .if1 .left) (fine t) m)) (p .put-item .ensures),
     )
 
 returns-4 : tie.Need-returns-4
-returns-4 c = 
+returns-4 c =
     let f = c .before .before in
     let o = f .before in
     let s = start (o .before) .args .st in

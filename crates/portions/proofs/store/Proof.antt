@@ -34,7 +34,7 @@ module _ (c : tie.After-lesser Inv-loop μ-loop) where
   fits : head .loop .at + c .lesser .result ≤ length (head .before .before .before .before .before .args .x .now)
   fits = omega (arith, c .lesser .ensures, head .loop .inv .inside)
 
--- at least one is taken
+  -- at least one is taken
   some : 0 < c .lesser .result
   some = let t = c .before .before .before .loop-test .taken in omega (arith, c .lesser .ensures, more, t)
 
@@ -72,7 +72,7 @@ loop-less c = let m = c .before .before .before .before .before .before .before 
     omega (arith, fits m, some m)
 
 loop-again : tie.Need-loop-again Inv-loop μ-loop
-loop-again c = 
+loop-again c =
     let p = c .before .before .before .before .before .before .before in
     let h = p .before .before .before .before in
     let m = h .before in
