@@ -1,6 +1,7 @@
 -- Some bytes, item by item: one turn of the loops of `count` and `store`, on plain lists and numbers. Assumes nothing.
 --     turn-after, turn-shows     the bytes of the item at hand, as many as there are, and then the others
 --     Underway                   what was stored so far and what is still to come make up the whole
+--     Counted                    the same only counted
 use Prim.Native.Nat.{ℕ, _+_, _≤_, _<_}
 use mathlib.Core.Path.{_≡_, refl, sym, ap, _∙_}
 use mathlib.Core.List.{List, [], _++_, append-assoc, append-nil}
@@ -13,7 +14,8 @@ use Rattle.def_portions.specs.declared.Event.{Event}
 use Rattle.event_lists.specs.Laid.{Laid}
 use Rattle.event_lists.proofs.LaidLaws.{laid-none, laid-as, and-then, same-tags, same-numbers, same-values}
 use Rattle.states.specs.declared.Portions.{Portions}
-use Rattle.states.specs.Steps.{holds, settled, settledEvents, after, shows}
+use Rattle.states.specs.declared.Settled.{Settled}
+use Rattle.states.specs.Steps.{holds, settled, settledEvents, settledOf, after, shows}
 use Rattle.states.proofs.RunLaws.{after-closed, shows-closed, item-after, item-shows}
 use Rattle.steps.proofs.HeldLaws.{length-part}
 
@@ -88,3 +90,36 @@ module _ {st : Portions} {x t₀ u₀ v₀ : List ℕ} where
           sym (after-closed s z (drop at x)) ∙ w .state,
           laid-as (sym (append-nil (w .shown)) ∙ (rw e at (w .rest))) (w .stored),
         )
+
+-- the same only counted
+pub record Counted (st : Portions) (x : List ℕ) (s : Portions) (at n : ℕ) : Type 0 where
+  pub inside : at ≤ length x
+  pub rest : n + length (shows s (drop at x)) ≡ length (shows st x)
+
+module _ {st : Portions} {x : List ℕ} where
+  pub count-begun : Counted st x st 0 0
+  count-begun = record { inside = omega arith; rest = omega arith }
+
+  module _ {s : Portions} {at n : ℕ} (w : Counted st x s at n) where
+    -- one turn
+    module _ (m : ℕ) (more : 0 < s .missing) (most : m ≤ s .missing) (fits : at + m ≤ length x) (r : Settled)
+        (e : r ≡ settledOf (holds s (part x at m))) where
+      counted : n + r .events + length (shows (r .state) (drop (at + m) x)) ≡ length (shows st x)
+      counted =
+          let es = settledEvents (holds s (part x at m)) in
+          let fs = shows (settled (holds s (part x at m))) (drop (at + m) x) in
+          rw e (omega (arith, ap length (turn-shows s x at m more most fits), length-append es fs, w .rest))
+
+      pub count-room : n + r .events ≤ length (shows st x)
+      count-room = omega (arith, counted)
+
+      pub count-onward : Counted st x (r .state) (at + m) (n + r .events)
+      count-onward = record { inside = fits; rest = counted }
+
+    -- no byte is left, or the state takes none
+    pub count-ended : length x ≤ at → n ≡ length (shows st x)
+    unfolding shows
+    count-ended h = let k = rw (drop-of-length-le x {i = at} h) at (w .rest) in omega (arith, k)
+
+    pub count-closed : s .missing ≡ 0 → n ≡ length (shows st x)
+    count-closed z = let k = rw (shows-closed s z (drop at x)) at (w .rest) in omega (arith, k)
