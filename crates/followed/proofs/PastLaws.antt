@@ -9,8 +9,8 @@ use native.Mathlib.Omega.{arith}
 use lib.ListN.{length, take, drop, length-append}
 use lib.Seq.{length-take-le, take-append-add}
 use lib.Dec.{ltb, leb, eqb}
-use borrow.Author.Tests.{ltb-true, ltb-false, lt-ltb, le-ltb, leb-true, leb-false, le-leb, lt-leb, ne-eqb}
-use Rattle.laws.proofs.Tests.{either}
+use borrow.Author.Tests.{eqb-true, ltb-true, ltb-false, lt-ltb, le-ltb, leb-true, leb-false, le-leb, lt-leb, ne-eqb}
+use Rattle.laws.proofs.Tests.{either, and-false-r}
 use Rattle.utils.proofs.BytesLaws.{Bytes}
 use Rattle.def_refusals.specs.declared.Refusal.{Refusal}
 use Rattle.def_refusals.specs.declared.Refusal.the-variants.{PastEnd}
@@ -53,9 +53,13 @@ unfolding heldOver
 held-append item h [] y = refl
 held-append item h (b ∷ x) y = held-append item _ x y
 
-past-of : (st : Portions) (x : List ℕ) → pastOf st x ≡ pastBy (announcedBy st x) (takenIn st + length x)
+past-of : (st : Portions) (x : List ℕ) → (announcedBy st x ≡ 0 → eqb (st .item) head ≡ true)
+    → pastOf st x ≡ pastBy (announcedBy st x) (takenIn st + length x)
 unfolding pastOf
-past-of st x = refl
+past-of st x h =
+    either (eqb (announcedBy st x) 0)
+    (λ t. rw (t, h (eqb-true _ _ t)))
+    (λ f. rw (f, and-false-r (eqb (st .item) head)))
 
 -- four bytes read back
 four-good : (s : List ℕ) → 4 ≤ length s → Bytes s
@@ -101,7 +105,7 @@ module _ (b x : List ℕ) (h : length b < 4) where
   unfolding start
   past-early y =
       rw (item-kept head 4 0 0 (known 0 0 0 0 0) b h)
-      (past-of begun x
+      (past-of begun x (λ z. refl)
       ∙ (rw (taken-early, ← length-append b x)
       (either (ltb (length (b ++ x)) 4)
       (λ t. let l : length (b ++ x) < 4 = ltb-true _ _ t in rw (announced-few l) (sym (past-few (b ++ x) l)))
@@ -143,7 +147,9 @@ module _ (a b c d : ℕ) (z : List ℕ) (y : Bytes (a ∷ b ∷ c ∷ d ∷ z)) 
   past-late e p x =
       let h = head-good e (headFault s) refl in
       let r = reached e p h in
-      past-of (after start s) x
+      let least : 8 ≤ announcedOf s = head-least s h in
+      let some : announcedBy (after start s) x ≡ announcedOf s = r .length x in
+      past-of (after start s) x (λ z. absurd (omega (arith, some, z)))
       ∙ ap₂ pastBy (r .length x ∙ sym (ap (λ (f : Checked). whereFine f (announcedOf s)) h))
       (ap (λ (n : ℕ). n + length x) (r .taken) ∙ sym (length-append s x))
       ∙ sym (past-by (s ++ x) (omega arith))
