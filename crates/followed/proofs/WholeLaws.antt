@@ -1,18 +1,18 @@
 -- All bytes of a packet show what the reading questions answer of it. Assumes nothing of the bytes.
 --     part-events     a block that is fit to be read
 --     whole           a packet that is accepted, not padded, and whose blocks are fit to be read
-use Prim.Native.Nat.{ℕ, zero, suc, _+_, _*_, _-_, _≤_, _<_}
+use Prim.Native.Nat.{ℕ, zero, suc, _+_, _-_, _≤_, _<_}
 use mathlib.Core.Path.{_≡_, refl, sym, ap, ap₂, _∙_}
-use mathlib.Core.Bool.{Bool, true, false, cond, not}
+use mathlib.Core.Bool.{true, false, cond, not}
 use mathlib.Core.List.{List, [], _∷_, _++_, append-assoc}
 use native.Mathlib.Numerals.{add-one}
 use native.Mathlib.Omega.{arith}
-use lib.ListN.{length, take, drop, length-take, length-drop}
+use lib.ListN.{length, drop, length-drop}
 use lib.Seq.{getD-take, length-take-le}
 use lib.Dec.{ltb, leb, eqb}
-use borrow.Author.Tests.{ltb-true, ltb-false, lt-ltb, le-ltb, le-leb, lt-leb, leb-true, leb-false, eq-eqb, eqb-true, not-false}
-use Rattle.laws.proofs.Tests.{either, by-test}
-use Rattle.def_refusals.specs.declared.Answer.the-variants.{Done, Refused}
+use borrow.Author.Tests.{ltb-false, le-ltb, le-leb, leb-false, eq-eqb, eqb-true, not-false}
+use Rattle.laws.proofs.Tests.{by-test}
+use Rattle.def_refusals.specs.declared.Answer.the-variants.{Done}
 use Rattle.def_refusals.specs.declared.Checked.the-variants.{Fine}
 use Rattle.def_wire.specs.declared.Reading.the-variants.{Standard}
 use Rattle.def_wire.specs.declared.Ranged.{Ranged}
@@ -24,7 +24,7 @@ use Rattle.def_wire.specs.declared.KindOr.the-variants.{AKind, NoKind}
 use Rattle.def_wire.specs.Bytes.{byteAt}
 use Rattle.def_wire.specs.Packet.{versionOf, isPadded, announcedOf, ssrcOf, paddingOf, isBadPadding, headerOf, countOf}
 use Rattle.def_wire.specs.Packet.{lengthAt, placeOf, walkFrom, part}
-use Rattle.def_wire.specs.Block.{typeOf, blockLength, kindOf, standardRule, fitness, checkOf, fieldsOf, timeOf, nextFit}
+use Rattle.def_wire.specs.Block.{typeOf, blockLength, kindOf, standardRule, fitness, checkOf, fieldsOf, timeOf}
 use Rattle.def_questions.specs.Questions.{numbersShown, pairsShown, entriesShown}
 use Rattle.def_portions.specs.declared.Event.{Event}
 use Rattle.def_portions.specs.declared.Event.the-variants.{Header, End}
