@@ -5,7 +5,7 @@
 --     call-keeps      the bytes taken then are within the announced length again
 use Prim.Native.Nat.{ℕ, _-_}
 use mathlib.Core.Path.{_≡_, refl, sym, ap, ap₂, _∙_}
-use mathlib.Core.List.{List, [], _++_}
+use mathlib.Core.List.{List, _++_}
 use native.Mathlib.Omega.{arith}
 use lib.ListN.{length, drop, length-append}
 use lib.Seq.{drop-append-seam}
@@ -13,7 +13,6 @@ use Rattle.utils.proofs.BytesLaws.{Bytes}
 use Rattle.def_refusals.specs.declared.Checked.{Checked}
 use Rattle.def_refusals.specs.declared.Checked.the-variants.{Fine, Unfit}
 use Rattle.def_refusals.specs.Answers.{thenCheck}
-use Rattle.def_portions.specs.declared.Event.{Event}
 use Rattle.def_portions.specs.Events.{Course, courseOf}
 use Rattle.def_portions.specs.Calls.{Call, kept, orKept, pastFault, added, roomFault, callOf}
 use Rattle.states.specs.declared.Followed.{Followed}

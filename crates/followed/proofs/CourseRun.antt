@@ -1,15 +1,14 @@
 -- The whole fold: from the start it shows what def_portions says of all bytes so far. Assumes bytes below 256.
 --     runs     the course of the bytes s is what the fold over them shows
-use Prim.Native.Nat.{ℕ, _+_, _*_, _-_, _%_, _≤_, _<_}
-use mathlib.Core.Path.{_≡_, refl, sym, ap, ap₂, _∙_}
-use mathlib.Core.Bool.{true, false, cond}
+use Prim.Native.Nat.{ℕ, _-_, _≤_, _<_}
+use mathlib.Core.Path.{_≡_, refl, sym, ap, _∙_}
+use mathlib.Core.Bool.{cond}
 use mathlib.Core.List.{List, [], _∷_, _++_}
 use native.Mathlib.Nat.{mod-eq-of-lt}
 use native.Mathlib.Omega.{arith}
-use lib.ListN.{length, take, drop, length-drop, take-append-drop}
-use lib.Seq.{length-take-le}
+use lib.ListN.{length, drop}
 use lib.Dec.{ltb, leb}
-use borrow.Author.Tests.{ltb-true, ltb-false, lt-ltb, le-ltb, leb-true}
+use borrow.Author.Tests.{ltb-true, ltb-false, le-ltb, leb-true}
 use Rattle.laws.proofs.Tests.{either}
 use Rattle.utils.proofs.BytesLaws.{Bytes}
 use Rattle.def_refusals.specs.declared.Refusal.{Refusal}
@@ -26,7 +25,7 @@ use Rattle.states.specs.Steps.{state, head, sender, known, start, heldOver, low
 use Rattle.states.specs.Steps.{nextBlock, inPacket, after, shows, faultOf}
 use Rattle.followed.specs.Run.{runOf, opening}
 use Rattle.followed.proofs.ItemRun.{whole, item-open, item-passed, item-refused, item-behind}
-use Rattle.followed.proofs.ValueLaws.{by-four, held-four, be32-lt, four-held, bytes-take, bytes-drop}
+use Rattle.followed.proofs.ValueLaws.{held-four, be32-lt, four-held, bytes-take, bytes-drop}
 use Rattle.followed.proofs.BlockRun.{both-fine, need-fine}
 use Rattle.followed.proofs.BlocksRun.{blocks}
 

@@ -1,8 +1,8 @@
 -- The entries of a block of type 5, as far as their bytes have come. Assumes bytes below 256.
 --     entries      entries in a row: an SSRC, then eight bytes
-use Prim.Native.Nat.{ℕ, _+_, _*_, _-_, _/_, _%_, _≤_, _<_}
+use Prim.Native.Nat.{ℕ, _+_, _-_, _≤_, _<_}
 use mathlib.Core.Path.{_≡_, refl, sym, ap, _∙_}
-use mathlib.Core.List.{List, [], _∷_, _++_, map, append-assoc}
+use mathlib.Core.List.{List, [], _∷_, _++_, map}
 use native.Mathlib.Nat.{mod-eq-of-lt}
 use native.Mathlib.Omega.{arith}
 use lib.ListN.{length, take, drop, take-append-drop, length-drop}
@@ -18,7 +18,7 @@ use Rattle.def_portions.specs.declared.Event.{Event}
 use Rattle.def_portions.specs.declared.Event.the-variants.{Entry}
 use Rattle.def_portions.specs.Events.{quiet, then}
 use Rattle.states.specs.declared.Known.{Known}
-use Rattle.states.specs.Steps.{state, known, whose, echo, heldOver, low32, high32, entryIn, passed, shownBy, loneOf, opened}
+use Rattle.states.specs.Steps.{state, known, whose, echo, heldOver, low32, high32, passed, shownBy, loneOf, opened}
 use Rattle.followed.specs.Run.{runOf, opening}
 use Rattle.followed.proofs.ItemRun.{item-open, item-passed}
 use Rattle.followed.proofs.BehindRun.{opened-item}

@@ -2,10 +2,10 @@
 --     Shape     what an item leaves of its block, so that the items behind it fill the block
 --     Going     a state that was not refused, n bytes of a packet having come
 --     going     it is so after any bytes, up to the announced length, that show no refusal
-use Prim.Native.Nat.{ℕ, zero, suc, _+_, _*_, _-_, _%_, _≤_, _<_}
-use mathlib.Core.Path.{_≡_, refl, sym, ap, _∙_}
-use mathlib.Core.Bool.{true, false}
-use mathlib.Core.List.{List, [], _∷_, _++_}
+use Prim.Native.Nat.{ℕ, suc, _+_, _-_, _%_, _≤_, _<_}
+use mathlib.Core.Path.{_≡_, refl, sym, _∙_}
+use mathlib.Core.Bool.{false}
+use mathlib.Core.List.{List, [], _∷_}
 use native.Mathlib.Nat.{add-zero}
 use native.Mathlib.Omega.{arith}
 use lib.ListN.{length}
@@ -20,16 +20,16 @@ use Rattle.def_wire.specs.declared.KindOr.{KindOr}
 use Rattle.def_wire.specs.declared.KindOr.the-variants.{AKind, NoKind}
 use Rattle.def_wire.specs.Bytes.{four}
 use Rattle.def_wire.specs.Block.{typeOf, blockLength, kindOf, standardRule, receiptType, nextFit}
-use Rattle.def_portions.specs.Events.{ruleOf, blockFault}
+use Rattle.def_portions.specs.Events.{ruleOf}
 use Rattle.states.specs.declared.Known.{Known}
 use Rattle.states.specs.declared.Portions.{Portions}
-use Rattle.states.specs.Steps.{head, sender, block, fields, word, time, whose, echo, clock, skipped, over, known, state, hold}
+use Rattle.states.specs.Steps.{head, sender, block, fields, word, time, whose, echo, clock, skipped, over, known, hold}
 use Rattle.states.specs.Steps.{low32, typeIn, ranged, itemFault, faultOf, nextBlock, opened, openedBy, inBlock, passed, passedOn}
 use Rattle.states.specs.Steps.{settled, next, after}
 use Rattle.states.specs.Call.{announcedBy, takenIn}
 use Rattle.states.proofs.RunLaws.{after-closed}
 use Rattle.followed.proofs.KindLaws.{rule-fine}
-use Rattle.followed.proofs.BlockRun.{Good, good-block}
+use Rattle.followed.proofs.BlockRun.{good-block}
 
 -- what an item leaves of its block, so that the items behind it fill the block
 pub data Item (item rest : ℕ) : Type 0 where

@@ -6,36 +6,34 @@ use mathlib.Core.Bool.{true, false}
 use mathlib.Core.List.{List, [], _∷_, _++_, map}
 use native.Mathlib.Nat.{add-zero}
 use native.Mathlib.Omega.{arith}
-use lib.ListN.{length, take, drop, length-take, length-append, take-append-drop}
-use lib.Seq.{length-take-le, take-all}
+use lib.ListN.{length, take, drop, length-take, take-append-drop}
+use lib.Seq.{length-take-le}
 use lib.Dec.{ltb, leb, eqb}
 use borrow.Author.Tests.{ltb-true, ltb-false, le-leb, lt-leb, leb-true, eqb-true, eqb-false}
 use Rattle.laws.proofs.Tests.{either}
 use Rattle.utils.proofs.BytesLaws.{Bytes}
-use Rattle.def_refusals.specs.declared.Checked.the-variants.{Fine, Unfit}
-use Rattle.def_wire.specs.declared.Ranged.{Ranged}
+use Rattle.def_refusals.specs.declared.Checked.the-variants.{Fine}
 use Rattle.def_wire.specs.declared.Ranged.the-variants.{Chunks, Times}
-use Rattle.def_wire.specs.declared.Kind.{Kind}
 use Rattle.def_wire.specs.declared.Kind.the-variants.{Spans, Clock, Echoes}
 use Rattle.def_wire.specs.declared.KindOr.{KindOr}
 use Rattle.def_wire.specs.declared.KindOr.the-variants.{AKind, NoKind}
-use Rattle.def_wire.specs.Bytes.{be32, be64, four}
+use Rattle.def_wire.specs.Bytes.{be32, four}
 use Rattle.def_wire.specs.Block.{typeOf, blockLength, timeAt, kindOf, standardRule, receiptType, nextFit}
 use Rattle.def_standard.specs.Standard.{entriesOf}
 use Rattle.def_portions.specs.declared.Event.{Event}
 use Rattle.def_portions.specs.declared.Event.the-variants.{Start, Time, Entry}
-use Rattle.def_portions.specs.Events.{Course, then, from, listed, rangedOf, startOf, kindEvents, ruleOf}
+use Rattle.def_portions.specs.Events.{Course, then, from, startOf, kindEvents, ruleOf}
 use Rattle.states.specs.declared.Known.{Known}
-use Rattle.states.specs.Steps.{state, fields, clock, skipped, whose, heldOver, itemFault, passed, shownBy, loneOf, opened, openedBy}
+use Rattle.states.specs.Steps.{state, clock, skipped, whose, itemFault, passed, shownBy, loneOf, opened, openedBy}
 use Rattle.states.specs.Steps.{startIn, listOf}
 use Rattle.states.specs.declared.Lone.the-variants.{One}
 use Rattle.followed.specs.Run.{runOf, opening, ending}
 use Rattle.followed.proofs.ItemRun.{whole, then-then, item-open, item-passed}
 use Rattle.followed.proofs.BehindRun.{ending-more, ending-open, opened-item, opened-none}
-use Rattle.followed.proofs.ValueLaws.{by-eight, held-eight, four-held, bytes-take, bytes-drop}
+use Rattle.followed.proofs.ValueLaws.{held-eight, four-held, bytes-take}
 use Rattle.followed.proofs.UnitsRun.{units}
 use Rattle.followed.proofs.EntriesRun.{entries}
-use Rattle.followed.proofs.RangedRun.{header, blockKnown, isTimes, unitOf, spans}
+use Rattle.followed.proofs.RangedRun.{header, blockKnown, spans}
 use Rattle.followed.proofs.KindLaws.{kind-type, rle-not-times, rule-fine}
 
 -- a block's last item, and then what is behind the block

@@ -16,3 +16,4 @@ pub mod CourseRun
 pub mod GoingLaws
 pub mod PastLaws
 pub mod CallLaws
+pub mod WholeLaws

@@ -1,22 +1,20 @@
 -- 19 on a state that bytes led to is 19 of all the bytes. Assumes bytes below 256.
 --     past-reached     where no refusal stays
-use Prim.Native.Nat.{ℕ, suc, _+_, _*_, _-_, _%_, _≤_, _<_}
+use Prim.Native.Nat.{ℕ, _+_, _-_, _≤_, _<_}
 use mathlib.Core.Path.{_≡_, refl, sym, ap, ap₂, _∙_}
-use mathlib.Core.Bool.{true, false, cond}
+use mathlib.Core.Bool.{true, cond}
 use mathlib.Core.List.{List, [], _∷_, _++_}
-use native.Mathlib.Nat.{mod-eq-of-lt}
 use native.Mathlib.Omega.{arith}
-use lib.ListN.{length, take, drop, length-append}
-use lib.Seq.{length-take-le, take-append-add}
+use lib.ListN.{length, take, length-append}
+use lib.Seq.{take-append-add}
 use lib.Dec.{ltb, leb, eqb}
-use borrow.Author.Tests.{eqb-true, ltb-true, ltb-false, lt-ltb, le-ltb, leb-true, leb-false, le-leb, lt-leb, ne-eqb}
+use borrow.Author.Tests.{eqb-true, ltb-true, ltb-false, lt-ltb, le-ltb, le-leb, lt-leb, ne-eqb}
 use Rattle.laws.proofs.Tests.{either, and-false-r}
 use Rattle.utils.proofs.BytesLaws.{Bytes}
-use Rattle.def_refusals.specs.declared.Refusal.{Refusal}
 use Rattle.def_refusals.specs.declared.Refusal.the-variants.{PastEnd}
 use Rattle.def_refusals.specs.declared.Checked.{Checked}
 use Rattle.def_refusals.specs.declared.Checked.the-variants.{Fine, Unfit}
-use Rattle.def_wire.specs.Bytes.{be32, four}
+use Rattle.def_wire.specs.Bytes.{four}
 use Rattle.def_wire.specs.Packet.{announcedOf}
 use Rattle.def_portions.specs.Events.{Course, need, headFault}
 use Rattle.def_portions.specs.Calls.{whereGood, pastFault}
@@ -27,7 +25,7 @@ use Rattle.followed.specs.Run.{runOf}
 use Rattle.followed.proofs.ItemRun.{item-kept}
 use Rattle.followed.proofs.ValueLaws.{bytes-front}
 use Rattle.followed.proofs.CourseRun.{header-back, head-least, past-within, head-refused, head-after}
-use Rattle.followed.proofs.GoingLaws.{Going, asks, at-sender, Counts, going, Past, going-past}
+use Rattle.followed.proofs.GoingLaws.{asks, at-sender, Counts, going, Past, going-past}
 
 -- 19, by the announced length and the bytes in all; where no length is known, none
 abbrev pastBy : ℕ → ℕ → Checked

@@ -1,13 +1,13 @@
 -- A block of types 1 to 3, behind its first four bytes, as far as its bytes have come. Assumes bytes below 256.
 --     spans      its fields, then its words or times, then what is behind it
 use Prim.Native.Nat.{ℕ, _+_, _*_, _-_, _%_, _≤_, _<_}
-use mathlib.Core.Path.{_≡_, refl, sym, ap, ap₂, _∙_}
+use mathlib.Core.Path.{_≡_, refl, ap, ap₂, _∙_}
 use mathlib.Core.Bool.{Bool, true, false, cond}
 use mathlib.Core.List.{List, [], _∷_, _++_, map}
 use native.Mathlib.Omega.{arith}
 use lib.ListN.{length, take, drop, length-take, length-append, take-append-drop}
 use lib.Seq.{length-take-le, take-add, drop-at}
-use lib.Dec.{ltb, leb, eqb}
+use lib.Dec.{ltb, eqb}
 use borrow.Author.Tests.{ltb-true, ltb-false, le-leb, lt-leb}
 use Rattle.laws.proofs.Tests.{either}
 use Rattle.utils.proofs.BytesLaws.{Bytes}
@@ -23,10 +23,10 @@ use Rattle.def_portions.specs.declared.Event.{Event}
 use Rattle.def_portions.specs.declared.Event.the-variants.{Ranged as RangedStart, Number, Pair}
 use Rattle.def_portions.specs.Events.{then, from, listed, rangedOf}
 use Rattle.states.specs.declared.Known.{Known}
-use Rattle.states.specs.Steps.{state, fields, word, time, known, heldOver, fieldsIn, ranged, rangedIn, passed, shownBy}
+use Rattle.states.specs.Steps.{fields, word, time, known, heldOver, fieldsIn, ranged, passed, shownBy}
 use Rattle.states.specs.Steps.{loneOf, opened, typeIn, thinningIn}
 use Rattle.range.specs.Inside.{insideCount}
-use Rattle.followed.specs.Run.{runOf, opening, ending}
+use Rattle.followed.specs.Run.{opening, ending}
 use Rattle.followed.proofs.ItemRun.{whole, then-then, item-open, item-passed}
 use Rattle.followed.proofs.BehindRun.{ending-more, ending-open, opened-item}
 use Rattle.followed.proofs.ValueLaws.{by-eight, held-eight, four-held, eight-held, bytes-take, bytes-drop}

@@ -1,28 +1,27 @@
 -- The times of a block of type 3, as far as their bytes have come. Assumes bytes below 256.
 --     times      times in a row list the pairs from position p on
-use Prim.Native.Nat.{ℕ, suc, _+_, _*_, _-_, _%_, _≤_, _<_}
-use mathlib.Core.Path.{_≡_, refl, sym, ap, _∙_}
-use mathlib.Core.Bool.{true, false}
+use Prim.Native.Nat.{ℕ, _+_, _*_, _-_, _%_, _≤_, _<_}
+use mathlib.Core.Path.{_≡_, refl, _∙_}
 use mathlib.Core.List.{List, [], _∷_, _++_, map, map-append}
 use native.Mathlib.Nat.{mod-eq-of-lt}
 use native.Mathlib.Numerals.{add-one}
 use native.Mathlib.Omega.{arith}
 use lib.ListN.{length}
-use lib.Dec.{ltb, eqb}
-use borrow.Author.Tests.{ltb-true, ltb-false, eq-eqb, ne-eqb}
+use lib.Dec.{ltb}
+use borrow.Author.Tests.{ltb-true, ltb-false, ne-eqb}
 use Rattle.laws.proofs.Tests.{either}
 use Rattle.utils.proofs.BytesLaws.{Bytes, pairUp-end, length-pairUp}
 use Rattle.def_wire.specs.Bytes.{be32, words16, words32, pairUp}
 use Rattle.def_standard.specs.declared.Range.{Range}
-use Rattle.def_standard.specs.Range.{inside, numberOf}
-use Rattle.def_standard.specs.Standard.{pairsFrom, receipt}
+use Rattle.def_standard.specs.Range.{inside}
+use Rattle.def_standard.specs.Standard.{pairsFrom}
 use Rattle.range.specs.Inside.{insideCount}
 use Rattle.range.proofs.InsideLaws.{is-inside, is-outside}
 use Rattle.def_portions.specs.declared.Event.{Event}
 use Rattle.def_portions.specs.declared.Event.the-variants.{Pair}
 use Rattle.def_portions.specs.Events.{then}
 use Rattle.states.specs.declared.Known.{Known}
-use Rattle.states.specs.Steps.{state, time, heldOver, moved, passed, shownBy, loneOf, listOf, opened}
+use Rattle.states.specs.Steps.{state, time, heldOver, moved, passed, shownBy, loneOf, opened}
 use Rattle.followed.specs.Run.{runOf, opening}
 use Rattle.followed.proofs.ItemRun.{whole, item-open, item-passed}
 use Rattle.followed.proofs.ValueLaws.{by-four, held-four, be32-lt}

@@ -2,18 +2,18 @@
 --     Units      units of n bytes, each begun by an item; `at p` is what is known where the unit at position p begins
 --     units      as many as the block has: what they list as far as their bytes have come, and then what is behind
 use Prim.Native.Nat.{ℕ, zero, suc, _+_, _*_, _-_, _≤_, _<_}
-use mathlib.Core.Path.{_≡_, refl, sym, ap, ap₂, _∙_}
+use mathlib.Core.Path.{_≡_, refl, ap, _∙_}
 use mathlib.Core.Bool.{false}
-use mathlib.Core.List.{List, [], _∷_, _++_}
+use mathlib.Core.List.{List, [], _++_}
 use native.Mathlib.Omega.{arith}
-use lib.ListN.{length, take, drop, length-append, take-append-drop, length-drop}
+use lib.ListN.{length, take, drop, take-append-drop}
 use lib.Seq.{length-take-le, take-all, take-add}
 use lib.Dec.{ltb, eqb}
-use borrow.Author.Tests.{ltb-true, ltb-false, ne-eqb}
+use borrow.Author.Tests.{ltb-true, ltb-false}
 use Rattle.laws.proofs.Tests.{either}
 use Rattle.utils.proofs.BytesLaws.{Bytes}
 use Rattle.def_portions.specs.declared.Event.{Event}
-use Rattle.def_portions.specs.Events.{Course, quiet, then}
+use Rattle.def_portions.specs.Events.{quiet, then}
 use Rattle.states.specs.declared.Known.{Known}
 use Rattle.states.specs.Steps.{state, over, opened}
 use Rattle.followed.specs.Run.{runOf, opening, ending}

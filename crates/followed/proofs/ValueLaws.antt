@@ -2,21 +2,21 @@
 --     bytes-take, bytes-drop     a part's bytes
 --     held-two, ..               an item of two, four and eight bytes
 --     four-held, eight-held      its bytes read back
-use Prim.Native.Nat.{ℕ, zero, suc, _+_, _*_, _-_, _/_, _%_, _≤_, _<_}
+use Prim.Native.Nat.{ℕ, _+_, _*_, _/_, _%_, _≤_, _<_}
 use mathlib.Core.Path.{_≡_, refl, sym, ap, ap₂, _∙_}
 use mathlib.Core.Bool.{false}
 use mathlib.Core.List.{List, [], _∷_, _++_}
 use native.Mathlib.Nat.{mod-eq-of-lt, zero-add}
 use native.Mathlib.Omega.{arith}
-use lib.ListN.{length, getD, take, drop, length-take, length-drop, take-append-drop, List·getD-eq-default}
-use lib.Seq.{take-append-seam, getD-take, getD-drop, length-take-le}
+use lib.ListN.{length, take, drop, length-take, length-drop, take-append-drop, List·getD-eq-default}
+use lib.Seq.{take-append-seam, getD-take, getD-drop}
 use lib.Dec.{ltb, eqb}
 use borrow.Author.Tests.{ltb-true, ltb-false}
 use Rattle.laws.proofs.Tests.{either}
-use Rattle.def_wire.specs.Bytes.{byteAt, be16, be32, be64, two, four, eight}
+use Rattle.def_wire.specs.Bytes.{be16, be32, be64, four, eight}
 use Rattle.utils.proofs.BytesLaws.{Bytes, be16-lt}
 use Rattle.utils.proofs.StoresLaws.{four-low}
-use Rattle.states.specs.Steps.{skipped, heldOver, low16, low32, high32}
+use Rattle.states.specs.Steps.{skipped, heldOver, low16}
 
 -- ---- a part's bytes
 

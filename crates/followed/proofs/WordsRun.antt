@@ -1,11 +1,11 @@
 -- The words of a block of type 1 or 2, as far as their bytes have come. Assumes bytes below 256.
 --     Stands     position p of a range is the next one
 --     words      words in a row list the numbers from position p on
-use Prim.Native.Nat.{ℕ, _+_, _*_, _-_, _<_}
-use mathlib.Core.Path.{_≡_, refl, sym, ap, _∙_}
-use mathlib.Core.List.{List, [], _∷_, _++_, map, map-append}
+use Prim.Native.Nat.{ℕ, _+_, _*_, _-_}
+use mathlib.Core.Path.{_≡_, refl, sym, _∙_}
+use mathlib.Core.List.{List, _++_, map, map-append}
 use native.Mathlib.Omega.{arith}
-use lib.ListN.{length, take}
+use lib.ListN.{length}
 use Rattle.utils.proofs.BytesLaws.{Bytes, pairUp-end}
 use Rattle.def_wire.specs.Bytes.{be16, words16, pairUp}
 use Rattle.def_standard.specs.declared.Range.{Range}
