@@ -18,11 +18,10 @@ use Rattle.def_refusals.specs.declared.Checked.{Checked}
 use Rattle.def_refusals.specs.declared.Checked.the-variants.{Fine, Unfit}
 use Rattle.def_wire.specs.declared.Reading.the-variants.{Standard}
 use Rattle.def_wire.specs.Bytes.{byteAt}
-use Rattle.def_wire.specs.Packet.{countOf, isPadded, announcedOf, ssrcOf, placeOf, lengthAt, part}
+use Rattle.def_wire.specs.Packet.{countOf, isPadded}
 use Rattle.def_wire.specs.Block.{typeOf, kindOf}
 use Rattle.def_questions.specs.Questions.{least3}
 use Rattle.def_portions.specs.declared.Event.{Event}
-use Rattle.def_portions.specs.declared.Event.the-variants.{Header, End}
 use Rattle.def_portions.specs.Events.{course, courseOf, ruleOf}
 use Rattle.def_portions.specs.Calls.{Call, callOf, pastFault}
 use Rattle.states.specs.declared.Portions.{Portions}
@@ -30,6 +29,7 @@ use Rattle.states.specs.declared.Followed.{Followed}
 use Rattle.states.specs.Steps.{start}
 use Rattle.states.specs.Call.{Following}
 use Rattle.event_lists.specs.Parts.{eventsIn}
+use Rattle.followed.specs.Whole.{viewOf, wholeOf}
 
 -- each number is a byte's
 abbrev pub Bytes : List ℕ → Type 0
@@ -37,7 +37,7 @@ Bytes s = (i : ℕ) → byteAt s i < 256
 
 pub data Reached : Portions → List ℕ → Type 0 where
   begun : Reached start []
-  behind : {st : Portions} {b x t u v t′ u′ v′ : List ℕ} {r : Followed} → Reached st b
+  behind : {st : Portions} {b x t u v t′ u′ v′ : List ℕ} {r : Followed} → Reached st b → Bytes (b ++ x)
       → Following st x t u v r t′ u′ v′ → Reached (r .state) (b ++ take (r .taken) x)
 
 -- on a state that calls gave: the refusal, the bytes that are taken then, and the events that the lists hold
@@ -64,6 +64,15 @@ abbrev pub Division : Type 0
 Division =
     (s : List ℕ) (es : List Event) (x : Checked) → Fed start Fine s es x → Bytes s → pastFault s ≡ Fine
     → course es x ≡ courseOf s
+
+-- a packet that the standard accepts, without padding, each block of types 1 to 5 fit to be read: the header, for each
+-- block its start and what the reading functions answer of it (followed's Whole), and the end
+abbrev pub WholeReading : Type 0
+WholeReading =
+    (s : List ℕ) (n : ℕ) (es : List Event) (x : Checked) → Fed start Fine s es x → Bytes s
+    → countOf Standard s ≡ Done n → isPadded s ≡ false
+    → ((k : ℕ) → k < n → ruleOf (kindOf (typeOf (viewOf s k))) (length (viewOf s k)) ≡ Fine)
+    → (es ≡ wholeOf s n) × (x ≡ Fine)
 
 -- a run of 16,383 numbers and the end
 abbrev pub OneByte : Type 0
