@@ -21,7 +21,8 @@ use Rattle.followed.specs.Run.{runOf, opening, ending}
 use Rattle.followed.proofs.ItemRun.{item-open}
 use Rattle.followed.proofs.BehindRun.{next-over, next-block, ending-open, ending-done}
 use Rattle.followed.proofs.ValueLaws.{bytes-drop}
-use Rattle.followed.proofs.BlockRun.{Good, good-block, block-run}
+use Rattle.followed.proofs.CheckLaws.{Good, good-block}
+use Rattle.followed.proofs.BlockRun.{block-run}
 
 -- the same bytes are the same length
 pub length-at : (s : List ℕ) (at : ℕ) → lengthAt s at ≡ blockLength (drop at s)

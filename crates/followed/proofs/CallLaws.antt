@@ -19,7 +19,7 @@ use Rattle.states.specs.Steps.{start, faultOf, after, shows}
 use Rattle.states.specs.Call.{pastOf, callFault, followedBy, followedOf, givenBy, givenOf}
 use Rattle.states.proofs.RunLaws.{after-append, shows-append}
 use Rattle.followed.proofs.ValueLaws.{bytes-front}
-use Rattle.followed.proofs.BlockRun.{both-fine}
+use Rattle.followed.proofs.CheckLaws.{both-fine}
 use Rattle.followed.proofs.CourseRun.{runs}
 use Rattle.followed.proofs.PastLaws.{past-reached}
 

@@ -4,43 +4,28 @@ use Prim.Native.Nat.{ℕ, _-_, _≤_, _<_}
 use mathlib.Core.Path.{_≡_, refl, sym, ap, _∙_}
 use mathlib.Core.Bool.{cond}
 use mathlib.Core.List.{List, [], _∷_, _++_}
-use native.Mathlib.Nat.{mod-eq-of-lt}
 use native.Mathlib.Omega.{arith}
 use lib.ListN.{length, drop}
-use lib.Dec.{ltb, leb}
-use borrow.Author.Tests.{ltb-true, ltb-false, le-ltb, leb-true}
+use lib.Dec.{ltb}
+use borrow.Author.Tests.{ltb-true, ltb-false, le-ltb}
 use Rattle.laws.proofs.Tests.{either}
 use Rattle.utils.proofs.BytesLaws.{Bytes}
 use Rattle.def_refusals.specs.declared.Refusal.{Refusal}
-use Rattle.def_refusals.specs.declared.Refusal.the-variants.{PastEnd}
 use Rattle.def_refusals.specs.declared.Checked.{Checked}
 use Rattle.def_refusals.specs.declared.Checked.the-variants.{Fine, Unfit}
-use Rattle.def_wire.specs.Bytes.{be32, four}
+use Rattle.def_wire.specs.Bytes.{four}
 use Rattle.def_wire.specs.Packet.{announcedOf, ssrcOf}
 use Rattle.def_portions.specs.declared.Event.the-variants.{Header}
-use Rattle.def_portions.specs.Events.{Course, course, quiet, then, unless, need, headFault, blocksFrom, courseOf}
+use Rattle.def_portions.specs.Events.{Course, course, quiet, then, unless, headFault, blocksFrom, courseOf}
 use Rattle.def_portions.specs.Calls.{pastFault}
 use Rattle.states.specs.declared.Known.{Known}
 use Rattle.states.specs.Steps.{state, head, sender, known, start, heldOver, low32, itemFault, passed, shownBy, loneOf}
 use Rattle.states.specs.Steps.{nextBlock, inPacket, after, shows, faultOf}
 use Rattle.followed.specs.Run.{runOf, opening}
 use Rattle.followed.proofs.ItemRun.{whole, item-open, item-passed, item-refused, item-behind}
-use Rattle.followed.proofs.ValueLaws.{held-four, be32-lt, four-held, bytes-take, bytes-drop}
-use Rattle.followed.proofs.BlockRun.{both-fine, need-fine}
+use Rattle.followed.proofs.ValueLaws.{held-low, held-back, bytes-take, bytes-drop}
+use Rattle.followed.proofs.CheckLaws.{head-least, past-within}
 use Rattle.followed.proofs.BlocksRun.{blocks}
-
--- a good header announces at least eight bytes
-pub head-least : (s : List ℕ) → headFault s ≡ Fine → 8 ≤ announcedOf s
-unfolding headFault
-head-least s e = leb-true 8 (announcedOf s) (need-fine _ _ (both-fine (need (leb 8 (announcedOf s)) _) _ e .0))
-
--- 19 does not apply: no byte is past the announced length
-pub past-within : (s : List ℕ) → 4 ≤ length s → headFault s ≡ Fine → pastFault s ≡ Fine → length s ≤ announcedOf s
-unfolding pastFault
-past-within s h f p =
-    let q : need (leb (length s) (announcedOf s)) (PastEnd (announcedOf s) (length s)) ≡ Fine =
-    rw (le-ltb (length s) 4 h, f) at p in
-    leb-true _ _ (need-fine _ _ q)
 
 -- behind the first four bytes
 module _ (a b c d : ℕ) (x : List ℕ) (y : Bytes (a ∷ b ∷ c ∷ d ∷ x)) where
@@ -54,11 +39,7 @@ module _ (a b c d : ℕ) (x : List ℕ) (y : Bytes (a ∷ b ∷ c ∷ d ∷ x)) 
   kn = known (announcedOf s) 0 0 0 0
 
   pub header-back : four (low32 (heldOver head 0 hd)) ≡ hd
-  header-back =
-      let z : Bytes hd = bytes-take 4 s y in
-      let v : low32 (heldOver head 0 hd) ≡ be32 hd 0 =
-      rw (held-four head refl hd refl z) (mod-eq-of-lt (be32-lt hd 0 z)) in
-      ap four v ∙ four-held hd refl z
+  header-back = held-back head refl hd refl (bytes-take 4 s y)
 
   fault-held : itemFault (whole head 4 0 0 (known 0 0 0 0 0) hd) ≡ headFault s
   unfolding headFault
@@ -98,9 +79,8 @@ module _ (a b c d i j k l : ℕ) (x : List ℕ) (y : Bytes (a ∷ b ∷ c ∷ d 
   unfolding passed shownBy loneOf
   sender-passed behind kn =
       let z : Bytes sn = bytes-take 4 (drop 4 p) (bytes-drop 4 p y) in
-      let v : low32 (heldOver sender 0 sn) ≡ be32 sn 0 =
-      rw (held-four sender refl sn refl z) (mod-eq-of-lt (be32-lt sn 0 z)) in
-      item-passed sender 4 0 behind kn sn x (omega arith) refl refl ∙ (rw v)
+      item-passed sender 4 0 behind kn sn x (omega arith) refl refl
+      ∙ (rw (held-low sender refl sn refl z))
 
   blocks-passed : headFault p ≡ Fine → pastFault p ≡ Fine
       → runOf start p ≡ then (Header (announcedOf p) (ssrcOf p) ∷ []) (blocksFrom p (announcedOf p) (length p) 8)

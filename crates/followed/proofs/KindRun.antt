@@ -34,7 +34,8 @@ use Rattle.followed.proofs.ValueLaws.{held-eight, four-held, bytes-take
 use Rattle.followed.proofs.UnitsRun.{units}
 use Rattle.followed.proofs.EntriesRun.{entries}
 use Rattle.followed.proofs.RangedRun.{header, blockKnown, spans}
-use Rattle.followed.proofs.KindLaws.{kind-type, rle-not-times, rule-fine}
+use Rattle.followed.proofs.KindLaws.{kind-type, rle-not-times}
+use Rattle.followed.proofs.CheckLaws.{rule-fine}
 
 -- a block's last item, and then what is behind the block
 last-passed : (k : Known) (item n behind : ℕ) (t x : List ℕ) → 0 < n → length t ≡ n

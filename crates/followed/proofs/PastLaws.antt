@@ -24,8 +24,10 @@ use Rattle.states.specs.Call.{announcedBy, takenIn, pastOf}
 use Rattle.followed.specs.Run.{runOf}
 use Rattle.followed.proofs.ItemRun.{item-kept}
 use Rattle.followed.proofs.ValueLaws.{bytes-front}
-use Rattle.followed.proofs.CourseRun.{header-back, head-least, past-within, head-refused, head-after}
-use Rattle.followed.proofs.GoingLaws.{asks, at-sender, Counts, going, Past, going-past}
+use Rattle.followed.proofs.CheckLaws.{head-least, past-within}
+use Rattle.followed.proofs.CourseRun.{header-back, head-refused, head-after}
+use Rattle.followed.proofs.GoingLaws.{asks, at-sender, Counts}
+use Rattle.followed.proofs.TakenLaws.{going, Past, going-past}
 
 -- 19, by the announced length and the bytes in all; where no length is known, none
 abbrev pastBy : ℕ → ℕ → Checked

@@ -1,7 +1,7 @@
 -- The bytes of an item that have come, as a number: big-endian, and nothing is lost. Assumes bytes below 256.
 --     bytes-take, bytes-drop     a part's bytes
 --     held-two, ..               an item of two, four and eight bytes
---     four-held, eight-held      its bytes read back
+--     four-held, held-back, ..   its bytes read back
 use Prim.Native.Nat.{ℕ, _+_, _*_, _/_, _%_, _≤_, _<_}
 use mathlib.Core.Path.{_≡_, refl, sym, ap, ap₂, _∙_}
 use mathlib.Core.Bool.{false}
@@ -16,7 +16,7 @@ use Rattle.laws.proofs.Tests.{either}
 use Rattle.def_wire.specs.Bytes.{be16, be32, be64, four, eight}
 use Rattle.utils.proofs.BytesLaws.{Bytes, be16-lt}
 use Rattle.utils.proofs.StoresLaws.{four-low}
-use Rattle.states.specs.Steps.{skipped, heldOver, low16}
+use Rattle.states.specs.Steps.{skipped, heldOver, low16, low32}
 
 -- ---- a part's bytes
 
@@ -91,10 +91,13 @@ module _ (item : ℕ) (o : eqb item skipped ≡ false) where
       let j : b < 256 = y 1 in
       rw (held-cons 0 a (b ∷ []) (omega arith), held-cons (0 * 256 + a) b [] (omega arith)) (omega arith))
 
-  pub held-four : (s : List ℕ) → length s ≡ 4 → Bytes s → heldOver item 0 s ≡ be32 s 0
+  held-four : (s : List ℕ) → length s ≡ 4 → Bytes s → heldOver item 0 s ≡ be32 s 0
   unfolding heldOver
   held-four =
       by-four (λ s. Bytes s → heldOver item 0 s ≡ be32 s 0) (λ a b c d y. held-more 0 a b c d [] (omega arith) y ∙ zero-add _)
+
+  pub held-low : (s : List ℕ) → length s ≡ 4 → Bytes s → low32 (heldOver item 0 s) ≡ be32 s 0
+  held-low s e y = rw (held-four s e y) (mod-eq-of-lt (be32-lt s 0 y))
 
   pub held-eight : (s : List ℕ) → length s ≡ 8 → Bytes s → heldOver item 0 s ≡ be64 s 0
   unfolding heldOver
@@ -131,3 +134,8 @@ eight-held =
     ap₂ (λ (x y : List ℕ). x ++ y)
     (ap four e ∙ four-held (a ∷ b ∷ c ∷ d ∷ []) refl (bytes-take 4 s y))
     (sym (four-low (be64 s 0)) ∙ ap four f ∙ four-held (i ∷ j ∷ k ∷ l ∷ []) refl (bytes-drop 4 s y)))
+
+-- of an item of four bytes that are held
+pub held-back : (item : ℕ) → eqb item skipped ≡ false → (s : List ℕ) → length s ≡ 4 → Bytes s
+    → four (low32 (heldOver item 0 s)) ≡ s
+held-back item o s e y = ap four (held-low item o s e y) ∙ four-held s e y

@@ -31,7 +31,8 @@ use Rattle.def_portions.specs.declared.Event.the-variants.{Header, End}
 use Rattle.def_portions.specs.Events.{course, then, ruleOf, headFault, blockFault, kindEvents, blockEvents, blocksFrom, courseOf}
 use Rattle.xr.proofs.WalkLaws.{no, done-eq, count-done}
 use Rattle.followed.specs.Whole.{viewOf, kindPart, partOf, partsFrom, wholeOf}
-use Rattle.followed.proofs.KindLaws.{kind-type, rule-fine}
+use Rattle.followed.proofs.KindLaws.{kind-type}
+use Rattle.followed.proofs.CheckLaws.{rule-fine}
 use Rattle.followed.proofs.BlocksRun.{length-at}
 
 -- ---- one block
