@@ -32,7 +32,8 @@ module _ (b x : List ℕ) (room : ℕ) (y : Bytes (b ++ x)) (p : pastFault b ≡
   module _ (q : pastFault (b ++ x) ≡ Fine) where
     added-shows : added b (b ++ x) ≡ shows (after start b) x
     added-shows =
-        ap₂ (λ (c d : Course). drop (length (c .events)) (d .events)) (runs b (bytes-front b x y) p) (runs (b ++ x) y q)
+        ap₂ (λ (c d : Course). drop (length (c .events)) (d .events)) (runs b (bytes-front b x y) p)
+        (runs (b ++ x) y q)
         ∙ ap (drop (length (shows start b))) (shows-append start b x)
         ∙ drop-append-seam (shows start b) (shows (after start b) x)
 

@@ -100,7 +100,8 @@ echoes-short (s ∷ []) h = refl
 echoes-short (s ∷ l ∷ []) h = refl
 echoes-short (s ∷ l ∷ d ∷ ws) h = absurd (omega arith)
 
-entries-split : (p : ℕ) (bs x : List ℕ) → length bs ≡ 12 → entriesListed p (bs ++ x) ≡ Entry (entryAt bs) ∷ entriesListed p x
+entries-split : (p : ℕ) (bs x : List ℕ) → length bs ≡ 12
+    → entriesListed p (bs ++ x) ≡ Entry (entryAt bs) ∷ entriesListed p x
 unfolding echoesOf pairUp
 entries-split p bs x =
     by-twelve (λ s. entriesListed p (s ++ x) ≡ Entry (entryAt s) ∷ entriesListed p x)

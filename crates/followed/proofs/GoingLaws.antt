@@ -103,13 +103,18 @@ module _ (announced n : ℕ) where
         → Going announced n (opened k (c .rest) (c .behind) item size)
     onward k item size e b = going-opened k (c .rest) (c .behind) item size e (omega (arith, g .all)) (g .fours) b
 
+    last : c .rest ≡ 0 → Going announced n (opened (c .known) (c .rest) (c .behind) skipped (c .rest))
+    last r = onward (c .known) skipped (c .rest) (g .length) (λ (s : 0 < c .rest). absurd (omega arith))
+
     pub passed-by : Item (c .item) (c .rest) → Going announced n (passed c)
     unfolding passed inBlock ranged
     passed-by (at-sender i r) = rw i (going-next (c .known) (c .behind) (g .length) (omega (arith, g .all)) (g .fours))
     passed-by (at-block i r) =
         let w = low32 (c .held) in
         let b = good-block (c .behind + 4) (four w) (rw i at f) in
-        rw i (going-kind (kindOf (typeOf (four w))) (known (c .known .announced) w 0 0 0) (blockLength (four w)) (c .behind)
+        let k = known (c .known .announced) w 0 0 0 in
+        rw i
+        (going-kind (kindOf (typeOf (four w))) k (blockLength (four w)) (c .behind)
         (b .rule) (omega arith) (omega arith) (b .fits) (g .length) (omega (arith, g .all)) (g .fours))
     passed-by (at-fields i r) =
         let k = ranged (c .known) (c .held) in
@@ -130,5 +135,5 @@ module _ (announced n : ℕ) where
     passed-by (at-echo i r) =
         rw i (onward _ whose 4 (g .length)
         (λ (s : 0 < c .rest). record { some = omega arith; fits = omega arith; shape = at-whose refl (omega arith) }))
-    passed-by (at-clock i r) = rw i (onward _ skipped (c .rest) (g .length) (λ (s : 0 < c .rest). absurd (omega arith)))
-    passed-by (at-skipped i r) = rw i (onward _ skipped (c .rest) (g .length) (λ (s : 0 < c .rest). absurd (omega arith)))
+    passed-by (at-clock i r) = rw i (last r)
+    passed-by (at-skipped i r) = rw i (last r)

@@ -8,7 +8,7 @@ use native.Mathlib.Omega.{arith}
 use lib.ListN.{length, take, length-append}
 use lib.Seq.{take-append-add}
 use lib.Dec.{ltb, leb, eqb}
-use borrow.Author.Tests.{ltb-true, ltb-false, lt-ltb, le-ltb, le-leb, lt-leb, ne-eqb}
+use borrow.Author.Tests.{ltb-true, ltb-false, lt-ltb, le-ltb, le-leb, lt-leb}
 use Rattle.laws.proofs.Tests.{either}
 use Rattle.utils.proofs.BytesLaws.{Bytes}
 use Rattle.def_refusals.specs.declared.Refusal.the-variants.{PastEnd}
@@ -19,13 +19,14 @@ use Rattle.def_wire.specs.Packet.{announcedOf}
 use Rattle.def_portions.specs.Events.{Course, need, headFault}
 use Rattle.def_portions.specs.Calls.{whereGood, pastFault}
 use Rattle.states.specs.declared.Portions.{Portions}
-use Rattle.states.specs.Steps.{state, head, sender, known, start, heldOver, low32, goodLength, whereFine, faultOf, after}
+use Rattle.states.specs.Steps.{state, head, known, start, heldOver, low32, goodLength, whereFine}
+use Rattle.states.specs.Steps.{faultOf, after}
 use Rattle.states.specs.Call.{announcedBy, takenIn, pastOf}
 use Rattle.followed.specs.Run.{runOf}
-use Rattle.followed.proofs.ItemRun.{item-kept}
+use Rattle.followed.proofs.ItemRun.{not-zero, item-kept}
 use Rattle.followed.proofs.ValueLaws.{bytes-front}
 use Rattle.followed.proofs.CheckLaws.{head-least, past-within}
-use Rattle.followed.proofs.CourseRun.{header-back, head-refused, head-after}
+use Rattle.followed.proofs.CourseRun.{behindHead, header-back, head-refused, head-after}
 use Rattle.followed.proofs.GoingLaws.{asks, at-sender, Counts}
 use Rattle.followed.proofs.TakenLaws.{going, Past, going-past}
 
@@ -40,7 +41,7 @@ past-by s h = rw (le-ltb (length s) 4 h) (by (headFault s) refl)
     by : (f : Checked) → headFault s ≡ f
         → whereGood (headFault s) (need (leb (length s) (announcedOf s)) (PastEnd (announcedOf s) (length s)))
         ≡ pastBy (goodLength s) (length s)
-    by Fine e = rw (e, ne-eqb (announcedOf s) 0 (λ (z : announcedOf s ≡ 0). absurd (omega arith)))
+    by Fine e = rw (e, not-zero (announcedOf s) (omega arith))
     by (Unfit r) e = rw e
 
 past-few : (s : List ℕ) → length s < 4 → pastFault s ≡ Fine
@@ -88,7 +89,8 @@ module _ (b x : List ℕ) (h : length b < 4) where
   announced-early y l =
       let m : 4 - length b ≤ length x = omega (arith, length-append b x) in
       rw (le-leb _ _ m)
-      (ap (λ (n : ℕ). goodLength (four (low32 n))) (held-append head 0 b (take (4 - length b) x) ∙ ap (heldOver head 0) first-four)
+      (ap (λ (n : ℕ). goodLength (four (low32 n))) (held-append head 0 b (take (4 - length b) x))
+      ∙ ap (λ (v : List ℕ). goodLength (four (low32 (heldOver head 0 v)))) first-four
       ∙ four-good (b ++ x) l y)
 
   announced-few : length (b ++ x) < 4 → announcedBy begun x ≡ 0
@@ -113,9 +115,6 @@ module _ (a b c d : ℕ) (z : List ℕ) (y : Bytes (a ∷ b ∷ c ∷ d ∷ z)) 
   abbrev s : List ℕ
   s = a ∷ b ∷ c ∷ d ∷ z
 
-  abbrev behind : Portions
-  behind = state sender 4 0 0 (announcedOf s - 8) (known (announcedOf s) 0 0 0 0)
-
   -- where no refusal stays, the header is good
   head-good : faultOf (after start s) ≡ Fine → (f : Checked) → headFault s ≡ f → headFault s ≡ Fine
   unfolding runOf
@@ -131,11 +130,11 @@ module _ (a b c d : ℕ) (z : List ℕ) (y : Bytes (a ∷ b ∷ c ∷ d ∷ z)) 
       let least : 8 ≤ n = head-least s h in
       let most : length s ≤ n = past-within s (omega arith) h p in
       let i = head-after a b c d z y h in
-      let counts : Counts n 4 behind =
+      let counts : Counts n 4 (behindHead s) =
       record { length = refl; all = omega arith; fours = omega arith; shape = at-sender refl refl } in
       let l : 4 + length z ≡ length s = omega arith in
-      rw i (going-past n (length s) (after behind z)
-      (rw l at (going n z 4 behind (asks (omega arith) counts) (omega arith) (rw i at e))))
+      rw i (going-past n (length s) (after (behindHead s) z)
+      (rw l at (going n z 4 (behindHead s) (asks (omega arith) counts) (omega arith) (rw i at e))))
 
   past-late : faultOf (after start s) ≡ Fine → pastFault s ≡ Fine → (x : List ℕ)
       → pastOf (after start s) x ≡ pastFault (s ++ x)

@@ -9,7 +9,7 @@ use native.Mathlib.Nat.{add-zero}
 use native.Mathlib.Omega.{arith}
 use lib.ListN.{length}
 use lib.Dec.{eqb}
-use borrow.Author.Tests.{eqb-true, eqb-false, ne-eqb, eq-eqb}
+use borrow.Author.Tests.{eqb-true, eqb-false, eq-eqb}
 use Rattle.laws.proofs.Tests.{either}
 use Rattle.def_refusals.specs.declared.Refusal.{Refusal}
 use Rattle.def_refusals.specs.declared.Checked.{Checked}
@@ -20,6 +20,7 @@ use Rattle.states.specs.Steps.{itemFault, faultOf, passedOn}
 use Rattle.states.specs.Steps.{settled, next, after}
 use Rattle.states.specs.Call.{announcedBy, takenIn}
 use Rattle.states.proofs.RunLaws.{after-closed}
+use Rattle.followed.proofs.ItemRun.{not-zero}
 use Rattle.followed.proofs.GoingLaws.{Item, at-sender, at-block, at-fields, at-word, at-time, at-whose, at-echo}
 use Rattle.followed.proofs.GoingLaws.{at-clock, at-skipped, Counts, Going, asks, ended, passed-by}
 
@@ -47,15 +48,15 @@ next-open : (st : Portions) (b : ℕ) → 0 < st .missing → 0 < st .missing - 
 unfolding next settled
 next-open st b h m =
     rw (
-      ne-eqb (st .missing) 0 (λ (e : st .missing ≡ 0). absurd (omega arith)),
-      ne-eqb (st .missing - 1) 0 (λ (e : st .missing - 1 ≡ 0). absurd (omega arith)),
+      not-zero (st .missing) h,
+      not-zero (st .missing - 1) m,
     )
 
 next-complete : (st : Portions) (b : ℕ) → 0 < st .missing → st .missing - 1 ≡ 0
     → next st b ≡ passedOn (itemFault (hold st b)) (hold st b)
 unfolding next settled
 next-complete st b h m =
-    rw (ne-eqb (st .missing) 0 (λ (e : st .missing ≡ 0). absurd (omega arith)), eq-eqb (st .missing - 1) 0 m)
+    rw (not-zero (st .missing) h, eq-eqb (st .missing - 1) 0 m)
 
 -- so after any bytes that show no refusal
 module _ (announced : ℕ) where

@@ -7,7 +7,7 @@ use native.Mathlib.Numerals.{add-one}
 use native.Mathlib.Omega.{arith}
 use lib.ListN.{length}
 use lib.Dec.{ltb}
-use borrow.Author.Tests.{ltb-true, ltb-false, ne-eqb}
+use borrow.Author.Tests.{ltb-true, ltb-false}
 use Rattle.laws.proofs.Tests.{either}
 use Rattle.utils.proofs.BytesLaws.{Bytes, pairUp-end, length-pairUp}
 use Rattle.def_wire.specs.Bytes.{be32, words16, words32, pairUp}
@@ -22,7 +22,7 @@ use Rattle.def_portions.specs.Events.{then}
 use Rattle.states.specs.declared.Known.{Known}
 use Rattle.states.specs.Steps.{state, time, moved, passed, shownBy, loneOf, opened}
 use Rattle.followed.specs.Run.{runOf, opening}
-use Rattle.followed.proofs.ItemRun.{whole, item-open, item-passed}
+use Rattle.followed.proofs.ItemRun.{not-zero, whole, item-open, item-passed}
 use Rattle.followed.proofs.ValueLaws.{by-four, held-low}
 use Rattle.followed.proofs.UnitsRun.{Units}
 use Rattle.followed.proofs.WordsRun.{Stands, stands-moved}
@@ -64,7 +64,8 @@ module _ (g : Range) where
   time-shown p k s rest behind bs e y =
       either (ltb p (insideCount g))
       (λ t. let h : p < insideCount g = ltb-true _ _ t in
-      rw (s .number, s .left, held-low time refl bs e y, is-inside g p h, ne-eqb (insideCount g - p) 0 (λ (z : insideCount g - p ≡ 0). absurd (omega arith))))
+      let z : 0 < insideCount g - p = omega arith in
+      rw (s .number, s .left, held-low time refl bs e y, is-inside g p h, not-zero (insideCount g - p) z))
       (λ f. let h : insideCount g ≤ p = ltb-false _ _ f in
       let z : insideCount g - p ≡ 0 = omega arith in
       rw (s .left, z, is-outside g p h))

@@ -64,7 +64,8 @@ be32-lt s at h = omega (arith, be16-lt s at h, be16-lt s (at + 2) h)
 -- ---- what is held
 
 module _ (item : ℕ) (o : eqb item skipped ≡ false) where
-  held-cons : (h b : ℕ) (bs : List ℕ) → h < 72057594037927936 → heldOver item h (b ∷ bs) ≡ heldOver item (h * 256 + b) bs
+  held-cons : (h b : ℕ) (bs : List ℕ) → h < 72057594037927936
+      → heldOver item h (b ∷ bs) ≡ heldOver item (h * 256 + b) bs
   unfolding heldOver
   held-cons h b bs l = rw (o, mod-eq-of-lt l)
 
@@ -75,8 +76,8 @@ module _ (item : ℕ) (o : eqb item skipped ≡ false) where
       let j : b < 256 = y 1 in
       let k : c < 256 = y 2 in
       let m : d < 256 = y 3 in
-      let e : (((h * 256 + a) * 256 + b) * 256 + c) * 256 + d ≡ h * 4294967296 + ((a * 256 + b) * 65536 + (c * 256 + d)) =
-      omega arith in
+      let w = (a * 256 + b) * 65536 + (c * 256 + d) in
+      let e : (((h * 256 + a) * 256 + b) * 256 + c) * 256 + d ≡ h * 4294967296 + w = omega arith in
       held-cons h a (b ∷ c ∷ d ∷ bs) (omega arith)
       ∙ held-cons (h * 256 + a) b (c ∷ d ∷ bs) (omega arith)
       ∙ held-cons ((h * 256 + a) * 256 + b) c (d ∷ bs) (omega arith)
@@ -94,7 +95,8 @@ module _ (item : ℕ) (o : eqb item skipped ≡ false) where
   held-four : (s : List ℕ) → length s ≡ 4 → Bytes s → heldOver item 0 s ≡ be32 s 0
   unfolding heldOver
   held-four =
-      by-four (λ s. Bytes s → heldOver item 0 s ≡ be32 s 0) (λ a b c d y. held-more 0 a b c d [] (omega arith) y ∙ zero-add _)
+      by-four (λ s. Bytes s → heldOver item 0 s ≡ be32 s 0)
+      (λ a b c d y. held-more 0 a b c d [] (omega arith) y ∙ zero-add _)
 
   pub held-low : (s : List ℕ) → length s ≡ 4 → Bytes s → low32 (heldOver item 0 s) ≡ be32 s 0
   held-low s e y = rw (held-four s e y) (mod-eq-of-lt (be32-lt s 0 y))
