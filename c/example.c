@@ -1,5 +1,5 @@
 /* What a C program does with the library: the numbers of a packet in both readings, a packet written so that an old
- * reader is not misled, and a call that is refused. tools/foreign builds and runs it and compares what it prints with
+ * reader is not misled, a call that is refused, and a packet that comes in portions. tools/foreign builds and runs it and compares what it prints with
  * c/example.stdout. */
 #include <giunchemis.h>
 
@@ -57,6 +57,32 @@ static int show(const char *name, uint8_t r, const uint8_t *packet, size_t packe
     return 0;
 }
 
+/* Reads a packet that comes some bytes at a time, as from a serial line, and prints each number as soon as its bytes are
+ * there. The packet itself is not kept: `state` is all that goes from call to call. */
+static int follow(const uint8_t *packet, size_t packet_len, size_t size) {
+    static uint64_t tags[16384], values[16384]; /* room for any byte's events */
+    static uint16_t numbers[16384];
+    xr_portions state = xr_portions_start();
+
+    for (size_t at = 0; at < packet_len; at += size) {
+        size_t given = packet_len - at < size ? packet_len - at : size;
+        xr_flat_followed a =
+            xr_follow(state, packet + at, given, tags, 16384, numbers, 16384, values, 16384);
+        for (uint64_t i = 0; i < a.events; i++) {
+            if ((tags[i] & 255) == 4)
+                printf("byte %zu: number %u\n", at + given, (unsigned)numbers[i]);
+            if ((tags[i] & 255) == 8)
+                printf("byte %zu: end\n", at + given);
+        }
+        if (a.code != 0) {
+            printf("in portions: refused %" PRIu32 " %" PRIu64 " %" PRIu64 "\n", a.code, a.first, a.second);
+            return 1;
+        }
+        state = a.state;
+    }
+    return 0;
+}
+
 int main(void) {
     if (show("standard", XR_STANDARD, sample, sizeof sample) || show("crate", XR_CRATE, sample, sizeof sample))
         return 1;
@@ -82,5 +108,12 @@ int main(void) {
     if (!refused("block 3", xr_numbers(XR_STANDARD, sample, sizeof sample, 3, XR_LOSS, kept, 2)))
         return 1;
     printf("the lent list still holds %u %u\n", (unsigned)kept[0], (unsigned)kept[1]);
+
+    /* The same packet in portions of three bytes; and one whose last block is cut short by its own length. */
+    uint8_t bad[sizeof sample];
+    memcpy(bad, sample, sizeof bad);
+    bad[11] = 1;
+    if (follow(sample, sizeof sample, 3) || !follow(bad, sizeof bad, 24))
+        return 1;
     return 0;
 }

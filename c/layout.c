@@ -1,4 +1,4 @@
-/* That the C compiler lays the structs out as the library does (crates/flat/src: #[repr(C)] on x86-64), and that the
+/* That the C compiler lays the structs out as the library does (crates/flat/src, crates/states/src: #[repr(C)] on x86-64), and that the
  * numbers without a meaning have the answers that the header says. Compiled as C11 and as C++17, and run. */
 #include <giunchemis.h>
 
@@ -43,6 +43,29 @@ HOLDS(offsetof(xr_flat_block, size) == 8);
 HOLDS(offsetof(xr_flat_block, length) == 16);
 HOLDS(offsetof(xr_flat_block, kind) == 20);
 HOLDS(offsetof(xr_flat_block, specific) == 21);
+
+HOLDS(sizeof(xr_known) == 24);
+HOLDS(offsetof(xr_known, announced) == 0);
+HOLDS(offsetof(xr_known, block) == 4);
+HOLDS(offsetof(xr_known, whose) == 8);
+HOLDS(offsetof(xr_known, next) == 12);
+HOLDS(offsetof(xr_known, inside) == 16);
+
+HOLDS(sizeof(xr_portions) == 64);
+HOLDS(offsetof(xr_portions, held) == 0);
+HOLDS(offsetof(xr_portions, missing) == 8);
+HOLDS(offsetof(xr_portions, rest) == 16);
+HOLDS(offsetof(xr_portions, behind) == 24);
+HOLDS(offsetof(xr_portions, known) == 32);
+HOLDS(offsetof(xr_portions, item) == 56);
+
+HOLDS(sizeof(xr_flat_followed) == 104);
+HOLDS(offsetof(xr_flat_followed, code) == 0);
+HOLDS(offsetof(xr_flat_followed, first) == 8);
+HOLDS(offsetof(xr_flat_followed, second) == 16);
+HOLDS(offsetof(xr_flat_followed, taken) == 24);
+HOLDS(offsetof(xr_flat_followed, events) == 32);
+HOLDS(offsetof(xr_flat_followed, state) == 40);
 
 static int bad = 0;
 

@@ -9,6 +9,7 @@ the packet on standard input, as xrdump does. The model's author had read the Ru
     lists.py           chunk words, the lists of both readings, the cursor
     jobs.py            job lists, the plain and the careful layout, refusal 15
     marks.py           chunk words from heard marks
+    portions.py        packets that come in portions
     dump.py            what xrdump prints
     model_selftest.py  the examples and the open points' facts
 """

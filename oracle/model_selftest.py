@@ -11,6 +11,7 @@ from lists import (covers, crate_count, crate_numbers, cursor, entries, first_fa
 from marks import misfit, words_from_marks
 from model_cases import (CLOCK, any_block, any_marks, any_range, any_word, both, careful, dlrr, h, header,
                          plain, rle, times)
+from portions import told
 from readings import CRATE, STANDARD, Range, fields, is_refused, time, view, whole
 
 FAILED = []
@@ -26,7 +27,7 @@ def expect(name, found, wanted):
 
 def run():
     for test in (examples, header_facts, block_facts, list_facts, cursor_facts, word_facts,
-                 job_facts, misled_facts, misled_rules, mark_facts, mark_turns, dump_facts):
+                 job_facts, misled_facts, misled_rules, mark_facts, mark_turns, portion_facts, dump_facts):
         test()
     print(f"{CHECKS[0]} checks, {len(FAILED)} failed")
     return 1 if FAILED else 0
@@ -42,6 +43,11 @@ block 0 type 1 length 16
 ssrc 7 begin 10 end 14 thinning 0
 numbers 10 11
 """
+
+
+SEVERAL = plain(rle([16386, 16387, 16385, 0], 10, 12), rle([49153, 3, 16385, 0], 65534, 4, 1, kind=2),
+                times([1001, 1002], 5, 9), CLOCK, dlrr(1), dlrr(2))
+FAR_ROOM = 16384
 
 
 def examples():
@@ -341,6 +347,38 @@ def mark_turns():
             expect("never 15", misled([header(), block]), [])
             expect("plain, standard", numbers(plain(block), STANDARD, 0, 1), heard)
             expect("careful, both readings", both(numbers, careful(block), 0, 1), (heard, heard))
+
+
+def portion_facts():
+    def say(room, sizes, data):
+        return told(room, sizes, data).splitlines()
+    least = h("80CF0001 00000001")
+    expect("portions: 8 bytes", say(2, [], least), ["header 8 1", "end", "taken 8 events 2"])
+    expect("portions: nothing", say(2, [], b""), [])
+    start = "start 1 16 ssrc 7 begin 10 end 14 thinning 0"
+    expect("portions: each at its byte", say(9, [7, 1, 11, 1, 1, 1, 1, 1], SAMPLE),
+           ["taken 7 events 0", "header 24 1", "taken 1 events 1", "taken 11 events 0", start, "taken 1 events 1",
+            "taken 1 events 0", "number 10", "number 11", "taken 1 events 2", "taken 1 events 0",
+            "number 12", "number 13", "end", "taken 1 events 3"])
+    expect("portions: 11 takes nothing", say(5, [24, 23], SAMPLE)[0], "refused 11 7 5")
+    expect("portions: 19 takes nothing", say(9, [9, 8], least + b"\0"),
+           ["refused 19 8 9", "header 8 1", "end", "taken 8 events 2", "refused 19 8 9"])
+    expect("portions: 19 before 11", say(0, [], least + b"\0"), ["refused 19 8 9"])
+    expect("portions: 2 before 19", say(9, [9], h("40CF0001 00000001 00")), ["refused 2 0 0"])
+    for head, wanted in ("80CF0000", "1 8 4"), ("20CE0000", "1 8 4"), ("20CE0001", "2 0 0"), ("A0CE0001", "3 0 0"), \
+            ("A0CF0001", "18 0 0"):
+        expect("portions: the header's fourth byte", say(9, [3, 1, 0], h(head)), ["taken 3 events 0"] + [f"refused {wanted}"] * 2)
+    seven = h("80CF0004 00000001 63000000 04000000 00000000")
+    expect("portions: 7 ends the events", say(9, [15, 1, 4], seven),
+           ["header 20 1", "start 99 4", "taken 15 events 2"] + ["refused 7 12 4"] * 3)
+    expect("portions: 11 before 7", say(1, [], seven), ["refused 11 2 1"])
+    six = h("80CF0003 00000001 01000001 00000000")
+    expect("portions: 7 where nothing is too long", say(9, [], six), ["header 16 1", "refused 7 12 8"])
+    expect("portions: 6 before 7", say(9, [], six[:11] + b"\2" + six[12:]), ["header 16 1", "refused 6 12 8"])
+    whole = told(FAR_ROOM, [], SEVERAL).splitlines()[:-1]
+    for size in range(1, 30):
+        lines = [line for line in told(FAR_ROOM, [size] * 200, SEVERAL).splitlines() if not line.startswith("taken")]
+        expect("portions: however divided", lines, whole)
 
 
 def dump_facts():

@@ -6,11 +6,13 @@
 //     timing.rs    turns and the table                 rows.rs      the rows and the growth
 //     writing.rs   what is written, as job lists and as builders
 //     marks.rs     marks, and their words by plain Rust
+//     portions.rs  a packet in portions, and the whole reading of it
 
 mod agree;
 mod marks;
 mod ours;
 mod packets;
+mod portions;
 mod rows;
 mod theirs;
 mod timing;
@@ -19,10 +21,10 @@ mod writing;
 use timing::Table;
 
 const USAGE: &str = "bench/run [GROUP ..]: times the named groups of rows, or all of them
-groups: packet numbers others longest refusals growth writing careful marks
+groups: packet numbers others longest refusals growth writing careful marks portions
 exit status: 0 every row is at or below its bar; 1 a row is above it; 2 bad usage; 101 an answer differs from the Rust's";
 
-const GROUPS: [(&str, fn(&mut Table)); 9] = [
+const GROUPS: [(&str, fn(&mut Table)); 10] = [
     ("packet", rows::packet),
     ("numbers", rows::numbers),
     ("others", rows::others),
@@ -32,6 +34,7 @@ const GROUPS: [(&str, fn(&mut Table)); 9] = [
     ("writing", rows::writing),
     ("careful", rows::careful_writing),
     ("marks", rows::from_marks),
+    ("portions", rows::in_portions),
 ];
 
 fn main() {

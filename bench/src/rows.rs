@@ -5,6 +5,7 @@ use crate::agree::{self, Room};
 use crate::marks;
 use crate::ours::{self, CRATE, STANDARD};
 use crate::packets::{self as make, careful, mixed, runs, some_runs, vectors};
+use crate::portions::{self, Lists};
 use crate::theirs;
 use crate::timing::{bb, harder, once, pair, Pair, Table};
 use crate::writing::{self as jobs, list};
@@ -417,6 +418,35 @@ pub fn from_marks(t: &mut Table) {
     assert_eq!(agree::from_marks(&more, most).code, 14);
     // one look at the length: what is timed is our call, and of plain Rust not even that
     t.note("14: 65,537 marks", made(&more, most));
+}
+
+/// Packets in portions, against the whole reading of the same packet by this library. No bar: the aim is 1.5 in one call.
+pub fn in_portions(t: &mut Table) {
+    t.heading("in portions, against the whole reading by this library");
+    let longest: Vec<Vec<u8>> = (0..60).map(|i| make::rle(1, i, i, 0, &make::mixed(2178))).collect();
+    let mut longest = make::packet(&longest);
+    let left = 262_144 - longest.len();
+    longest.extend_from_slice(&make::block(99, 0, &vec![7; left - 4]));
+    longest[2..4].copy_from_slice(&65535u16.to_be_bytes());
+    let times: Vec<u32> = (0..1000).collect();
+    for (name, s) in [
+        ("10 small blocks", make::packet(&make::small_blocks(10))),
+        ("1,000 mixed words", make::packet(&[make::rle(1, 0, 0, 0, &make::mixed(1000))])),
+        ("262,144 bytes of mixed words in 60 blocks", longest),
+        ("262,144 bytes of words in one block", make::packet(&[make::rle(1, 0, 0, 0, &make::mixed(131_062))])),
+        ("1,000 runs of 1 to 200", make::packet(&[make::rle(1, 0, 0, 0, &make::some_runs(1000))])),
+        ("1,000 times", make::packet(&[make::receipt(0, 0, 0, &times)])),
+        ("1,000 entries", make::packet(&[make::dlrr(1000)])),
+    ] {
+        let (mut a, mut b) = (Lists::new(2_000_000), Lists::new(2_000_000));
+        let blocks = ours::parse(ours::STANDARD, &s).first as usize;
+        for (how, size) in [("in one call", s.len()), ("in calls of 64 bytes", 64), ("in calls of one byte", 1)] {
+            let events = portions::followed(&s, size, &mut a);
+            assert_eq!(events, portions::whole(&s, &mut b) + blocks + 2, "{name} {how}");
+            let p = pair(|| go(portions::followed(bb(&s), size, &mut a)), || go(portions::whole(bb(&s), &mut b)));
+            t.note(&format!("{name}, {how}"), p);
+        }
+    }
 }
 
 /// Both ways of plain Rust; the one that is harder to beat.

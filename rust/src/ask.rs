@@ -312,3 +312,61 @@ pub fn write_plain(list: &[u8], out: &mut [u8]) -> Result<usize, Refusal> {
 pub fn write_careful(list: &[u8], out: &mut [u8]) -> Result<usize, Refusal> {
     count_of(unsafe { sys::xr_write_careful(list.as_ptr(), list.len(), out.as_mut_ptr(), out.len()) })
 }
+
+/// Where a packet that comes in portions stands: 64 bytes, whatever the packet. A copy is a state of its own.
+#[derive(Clone, Copy, Debug, PartialEq, Eq, Hash)]
+pub struct PortionState(sys::Portions);
+
+/// What [`follow`] gives.
+#[derive(Clone, Copy, Debug, PartialEq, Eq)]
+pub struct Followed {
+    /// for the next call
+    pub state: PortionState,
+    /// how many of the call's bytes were taken: all, or none
+    pub taken: usize,
+    /// how many events were listed
+    pub events: usize,
+    /// why the call, or the packet, is refused
+    pub refusal: Option<Refusal>,
+}
+
+/// The state before the first byte of a packet that comes in portions.
+pub fn portions_start() -> PortionState {
+    PortionState(unsafe { sys::xr_portions_start() })
+}
+
+/// Takes some bytes of such a packet, or none, and lists the events that they complete, in the standard reading:
+/// 1, 2, 3, 18, 19, 11, 6, 7. The event at an index is in the three lists' items there ([`crate::Event::from_parts`]);
+/// what an event does not have is left as it was. Unlike elsewhere, events are listed and bytes are taken also where
+/// the packet is refused as 1, 2, 3, 18, 6 or 7: those before the refusal, which then stays. 19 and 11 take nothing.
+/// Room for 16,384 events is enough for one byte, whatever it is. [`crate::Portions`] does this with lists of its own.
+pub fn follow(
+    state: PortionState,
+    bytes: &[u8],
+    tags: &mut [u64],
+    numbers: &mut [u16],
+    values: &mut [u64],
+) -> Followed {
+    let a = unsafe {
+        sys::xr_follow(
+            state.0,
+            bytes.as_ptr(),
+            bytes.len(),
+            tags.as_mut_ptr(),
+            tags.len(),
+            numbers.as_mut_ptr(),
+            numbers.len(),
+            values.as_mut_ptr(),
+            values.len(),
+        )
+    };
+    Followed {
+        state: PortionState(a.state),
+        taken: a.taken as usize,
+        events: a.events as usize,
+        refusal: match a.code {
+            0 => None,
+            code => Some(Refusal::from_numbers(code, a.first, a.second)),
+        },
+    }
+}

@@ -103,6 +103,15 @@ pub enum Refusal {
         /// the index of the first such mark
         index: usize,
     },
+    /// 18: a packet in portions has padding, whose count comes last.
+    Padded,
+    /// 19: more bytes of a packet in portions were given than its header says.
+    PastEnd {
+        /// the length that the header says
+        announced: usize,
+        /// the bytes given in all
+        given: usize,
+    },
 }
 
 impl Refusal {
@@ -126,6 +135,8 @@ impl Refusal {
             Refusal::TooMany { .. } => 14,
             Refusal::Misleads { .. } => 15,
             Refusal::BadMark { .. } => 17,
+            Refusal::Padded => 18,
+            Refusal::PastEnd { .. } => 19,
         }
     }
 
@@ -133,7 +144,7 @@ impl Refusal {
     pub fn values(&self) -> (usize, usize) {
         match *self {
             Refusal::TooShort { least, actual } => (least, actual),
-            Refusal::WrongVersion | Refusal::WrongPacketType | Refusal::NoPlace => (0, 0),
+            Refusal::WrongVersion | Refusal::WrongPacketType | Refusal::NoPlace | Refusal::Padded => (0, 0),
             Refusal::WrongLength { announced, actual } => (announced, actual),
             Refusal::BadPadding { count } => (count, 0),
             Refusal::BlockTooLong { length, left } => (length, left),
@@ -145,6 +156,7 @@ impl Refusal {
             Refusal::ValueTooLarge { value } => (value, 0),
             Refusal::BadRecord { index } | Refusal::Misleads { index } | Refusal::BadMark { index } => (index, 0),
             Refusal::TooMany { found, limit } => (found, limit),
+            Refusal::PastEnd { announced, given } => (announced, given),
         }
     }
 
@@ -169,6 +181,8 @@ impl Refusal {
             15 => Refusal::Misleads { index: a },
             16 => Refusal::NoPlace,
             17 => Refusal::BadMark { index: a },
+            18 => Refusal::Padded,
+            19 => Refusal::PastEnd { announced: a, given: b },
             _ => unreachable!("libxport.a answered with the number {}, which its contract does not allow", code),
         }
     }
@@ -208,6 +222,10 @@ impl fmt::Display for Refusal {
             Refusal::TooMany { found, limit } => write!(f, "there are {}, and {} are allowed", found, limit),
             Refusal::Misleads { index } => write!(f, "block {} would mislead a reader of the old kind", index),
             Refusal::BadMark { index } => write!(f, "mark {} is neither 0 nor 1", index),
+            Refusal::Padded => write!(f, "the packet has padding, and cannot be read in portions"),
+            Refusal::PastEnd { announced, given } => {
+                write!(f, "{} bytes were given in all, and the header says {}", given, announced)
+            }
         }
     }
 }

@@ -44,6 +44,40 @@ pub(crate) struct FlatBlock {
     pub(crate) specific: u8,
 }
 
+/// What the items of a packet in portions that are still to come need to know.
+#[repr(C)]
+#[derive(Clone, Copy, Debug, PartialEq, Eq, Hash)]
+pub(crate) struct Known {
+    pub(crate) announced: u32,
+    pub(crate) block: u32,
+    pub(crate) whose: u32,
+    pub(crate) next: u16,
+    pub(crate) inside: usize,
+}
+
+/// Where a packet that comes in portions stands.
+#[repr(C)]
+#[derive(Clone, Copy, Debug, PartialEq, Eq, Hash)]
+pub(crate) struct Portions {
+    pub(crate) held: u64,
+    pub(crate) missing: usize,
+    pub(crate) rest: usize,
+    pub(crate) behind: usize,
+    pub(crate) known: Known,
+    pub(crate) item: u8,
+}
+
+#[repr(C)]
+#[derive(Clone, Copy)]
+pub(crate) struct FlatFollowed {
+    pub(crate) code: u32,
+    pub(crate) first: u64,
+    pub(crate) second: u64,
+    pub(crate) taken: u64,
+    pub(crate) events: u64,
+    pub(crate) state: Portions,
+}
+
 // The readings, the block types and the kinds of chunk words.
 pub(crate) const STANDARD: u8 = 0;
 pub(crate) const CRATE: u8 = 1;
@@ -159,6 +193,18 @@ extern "C" {
         out: *mut u16,
         out_len: usize,
     ) -> FlatStretch;
+    pub(crate) fn xr_portions_start() -> Portions;
+    pub(crate) fn xr_follow(
+        state: Portions,
+        bytes: *const u8,
+        bytes_len: usize,
+        tags: *mut u64,
+        tags_len: usize,
+        numbers: *mut u16,
+        numbers_len: usize,
+        values: *mut u64,
+        values_len: usize,
+    ) -> FlatFollowed;
     pub(crate) fn xr_chunk_of(word: u16) -> Flat;
     pub(crate) fn xr_chunk(k: u8, value: u32, out: *mut u8, out_len: usize) -> Flat;
     pub(crate) fn xr_words_from_marks(marks: *const u8, marks_len: usize, out: *mut u16, out_len: usize) -> Flat;

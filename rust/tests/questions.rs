@@ -131,6 +131,8 @@ fn every_refusal_has_its_number_and_values() {
         (Refusal::Misleads { index: 2 }, (15, 2, 0)),
         (Refusal::NoPlace, (16, 0, 0)),
         (Refusal::BadMark { index: 5 }, (17, 5, 0)),
+        (Refusal::Padded, (18, 0, 0)),
+        (Refusal::PastEnd { announced: 8, given: 9 }, (19, 8, 9)),
     ];
     for (refusal, numbers) in all {
         assert_eq!(numbers_of(refusal), numbers);

@@ -3,10 +3,10 @@
 --     Reply          text lines, or `cut`
 --     lineIn         a list's line in so much room, else the refusal's
 --     answerTo       the reply to a request
-use Prim.Native.Nat.{ℕ, min}
+use Prim.Native.Nat.{ℕ, zero, suc, _+_, _*_, _-_, min}
 use mathlib.Core.Bool.{Bool, true, false, cond}
-use mathlib.Core.List.{List, [], _++_}
-use lib.ListN.{length, drop}
+use mathlib.Core.List.{List, [], _∷_, _++_}
+use lib.ListN.{length, take, drop}
 use lib.Dec.{leb, eqb}
 use Rattle.def_refusals.specs.declared.Refusal.the-variants.{NoRoom}
 use Rattle.def_refusals.specs.declared.Answer.{Answer}
@@ -38,9 +38,11 @@ use Rattle.def_cursor.specs.declared.Stretch.{Stretch}
 use Rattle.def_cursor.specs.Cursor.{cursor, advanceFault, stretchOf, listedBy}
 use Rattle.def_jobs.specs.declared.Layout.{Layout}
 use Rattle.def_jobs.specs.declared.Layout.the-variants.{Plain, Careful}
-use Rattle.def_jobs.specs.Jobs.{le32}
+use Rattle.def_jobs.specs.Jobs.{le16, le32}
 use Rattle.def_jobs.specs.Writing.{packetOf}
 use Rattle.def_marks.specs.Marks.{marksAsked}
+use Rattle.def_portions.specs.Calls.{Call, callOf}
+use Rattle.def_dump.specs.EventLines.{eventLines, givenLine}
 use Rattle.def_dump.specs.Lines.{refusalLine, fieldsLine, timeLine, numbersLine, wordsLine, pairsLine, entriesLine}
 use Rattle.def_dump.specs.Lines.{takenLine, wordLine, blocksLine, viewLine, packetLine}
 use Rattle.def_dump.specs.Dump.{dumpText}
@@ -219,6 +221,38 @@ viewText p = viewTold (drop 5 p) (locate (readingFirst p) (drop 5 p) (le32 p 1))
 unfoldable pub viewReply : List ℕ → Reply
 viewReply p = atLeast 5 p (atMost 1 (byteAt p 0) (told (viewText p)))
 
+-- 12: room (4), n (2), n sizes (4 each), bytes. One call for each size, each from the first byte that no call has taken
+-- on, and one more for what is then left: for each its events' lines, then what it took, or its refusal
+unfoldable pub sizesAt : List ℕ → ℕ → ℕ → List ℕ
+sizesAt p at zero = []
+sizesAt p at (suc n) = le32 p at ∷ sizesAt p (at + 4) n
+
+abbrev pub endingOf : Checked → ℕ → ℕ → List ℕ
+endingOf Fine given events = givenLine given events
+endingOf (Unfit x) given events = refusalLine x
+
+abbrev pub callTold : Call → ℕ → List ℕ
+callTold c given = eventLines (c .events) ++ endingOf (c .refusal) given (length (c .events))
+
+-- the bytes x behind those that were taken, b: what a call left of them
+abbrev pub leftBy : Call → List ℕ → List ℕ → List ℕ
+leftBy c b x = drop (length (c .taken) - length b) x
+
+unfoldable pub callsText : ℕ → List ℕ → List ℕ → List ℕ → List ℕ
+callsText room b x [] = cond (eqb (length x) 0) [] (callTold (callOf b x room) (length x))
+callsText room b x (size ∷ sizes) =
+    callTold (callOf b (take size x) room) (length (take size x))
+    ++ callsText room (callOf b (take size x) room .taken) (leftBy (callOf b (take size x) room) b x) sizes
+
+abbrev pub sizesEnd : List ℕ → ℕ
+sizesEnd p = 6 + 4 * le16 p 4
+
+unfoldable pub portionsText : List ℕ → List ℕ
+portionsText p = callsText (listRoom p 0) [] (drop (sizesEnd p) p) (sizesAt p 6 (le16 p 4))
+
+unfoldable pub portionsReply : List ℕ → Reply
+portionsReply p = atLeast 6 p (atLeast (sizesEnd p) p (told (portionsText p)))
+
 -- by the kind; any other is not served
 unfoldable pub answerTo : ℕ → List ℕ → Reply
 answerTo kind p =
@@ -233,4 +267,5 @@ answerTo kind p =
     (cond (eqb kind 9) (wordsReply p)
     (cond (eqb kind 10) (marksReply p)
     (cond (eqb kind 11) (viewReply p)
-    (cond (eqb kind 14) (numbersReply p) cut)))))))))))
+    (cond (eqb kind 12) (portionsReply p)
+    (cond (eqb kind 14) (numbersReply p) cut))))))))))))

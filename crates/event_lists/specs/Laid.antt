@@ -1,9 +1,10 @@
 -- What a call that stores events leaves.
---     Laid     the events es were stored in three lists from index n on; n′ is the index past them
-use Prim.Native.Nat.{ℕ, _+_, min}
+--     Laid           the events es were stored in three lists from index n on; n′ is the index past them
+--     numberTags     the tags of so many numbers
+use Prim.Native.Nat.{ℕ, _+_}
 use mathlib.Core.Path.{_≡_}
 use mathlib.Core.List.{List}
-use lib.ListN.{length}
+use lib.ListN.{length, replicate}
 use Rattle.def_portions.specs.declared.Event.{Event}
 use Rattle.def_portions.specs.Lists.{tagPart, numberPart, valuePart, laid}
 
@@ -12,3 +13,6 @@ pub record Laid (es : List Event) (n : ℕ) (t u v t′ u′ v′ : List ℕ) (n
   pub numbers : u′ ≡ laid numberPart es n u
   pub values : v′ ≡ laid valuePart es n v
   pub past : n′ ≡ n + length es
+
+abbrev pub numberTags : ℕ → List ℕ
+numberTags k = replicate k 4

@@ -1,3 +1,3 @@
--- Read in this order: Laid (what a call that stores events leaves), Parts (the event that three numbers are).
+-- Read in this order: Laid (what a call that stores events leaves), Parts (events read back).
 pub mod Laid
 pub mod Parts

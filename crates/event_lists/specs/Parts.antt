@@ -1,8 +1,16 @@
--- The event that a tag, a number and a value are (def_portions, Lists). A kind that no event has is the end.
-use Prim.Native.Nat.{ℕ, _/_, _%_}
+-- Events read back from three lists side by side (def_portions, Lists).
+--     eventOf      the event that a tag, a number and a value are
+--     eventsIn     the events of three lists, up to a count
+--     InRange      each number of an event is within its type
+use Prim.Native.Nat.{ℕ, _/_, _%_, _^_, _<_}
 use mathlib.Core.Bool.{cond}
+use mathlib.Core.List.{List, [], _∷_}
+use lib.ListN.{take}
 use lib.Dec.{eqb}
 use Rattle.def_wire.specs.declared.Fields.{Fields}
+use Rattle.def_standard.specs.declared.Receipt.{Receipt}
+use Rattle.def_standard.specs.declared.Echo.{Echo}
+use Rattle.def_wire.specs.declared.LongTime.{LongTime}
 use Rattle.def_standard.specs.Standard.{receipt}
 use Rattle.def_portions.specs.declared.Event.{Event}
 use Rattle.def_portions.specs.declared.Event.the-variants.{Header, Start, Ranged as RangedStart, Number, Pair}
@@ -33,6 +41,7 @@ entryOf tag value =
       delay = record { 0 = value % 4294967296 };
     })
 
+-- a kind that no event has is the end
 unfoldable pub eventOf : ℕ → ℕ → ℕ → Event
 eventOf tag number value =
     cond (eqb (tag % 256) 1) (Header (tag / 256 % 4294967296) (value % 4294967296))
@@ -42,3 +51,29 @@ eventOf tag number value =
     (cond (eqb (tag % 256) 5) (Pair (receipt number (value % 4294967296)))
     (cond (eqb (tag % 256) 6) (entryOf tag value)
     (cond (eqb (tag % 256) 7) (Time (record { 0 = value })) End))))))
+
+-- item by item, as far as the shortest list goes
+unfoldable pub eventsOf : List ℕ → List ℕ → List ℕ → List Event
+eventsOf [] numbers values = []
+eventsOf (t ∷ tags) [] values = []
+eventsOf (t ∷ tags) (n ∷ numbers) [] = []
+eventsOf (t ∷ tags) (n ∷ numbers) (v ∷ values) = eventOf t n v ∷ eventsOf tags numbers values
+
+abbrev pub eventsIn : List ℕ → List ℕ → List ℕ → ℕ → List Event
+eventsIn tags numbers values count = eventsOf (take count tags) (take count numbers) (take count values)
+
+-- an event whose numbers have room in the three lists' items
+pub data InRange : Event → Type 0 where
+  inHeader : {l ssrc : ℕ} → l < 2 ^ 32 → ssrc < 2 ^ 32 → InRange (Header l ssrc)
+  inStart : {type l : ℕ} → type < 256 → l < 2 ^ 24 → InRange (Start type l)
+  inRanged : {type l : ℕ} {f : Fields} → type < 256 → l < 2 ^ 24 → f .ssrc < 2 ^ 32 → f .begin < 65536
+      → f .end < 65536 → f .thinning < 256 → InRange (RangedStart type l f)
+  inNumber : {n : ℕ} → n < 65536 → InRange (Number n)
+  inPair : {r : Receipt} → r .number < 65536 → r .time .0 < 2 ^ 32 → InRange (Pair r)
+  inEntry : {e : Echo} → e .ssrc < 2 ^ 32 → e .last .0 < 2 ^ 32 → e .delay .0 < 2 ^ 32 → InRange (Entry e)
+  inTime : {t : LongTime} → InRange (Time t)
+  inEnd : InRange End
+
+pub data AllInRange : List Event → Type 0 where
+  noneLeft : AllInRange []
+  inBoth : {e : Event} {es : List Event} → InRange e → AllInRange es → AllInRange (e ∷ es)

@@ -1,13 +1,14 @@
-// Events in three lent lists side by side (RULES, "Packets in portions"): stored one by one, the numbers of a chunk word
-// at once, and read back.
+// Events in three lent lists side by side (RULES, "Packets in portions"): stored one by one, the numbers of a chunk
+// word at once, and read back.
 ghost use mathlib.Core.Path.{_≡_};
 ghost use mathlib.Core.List.{_∷_, [], map};
-ghost use Prim.Native.Nat.{_+_, _≤_, _<_};
+ghost use Prim.Native.Nat.{_+_, _-_, _≤_, _<_};
 ghost use lib.ListN.{length, take};
+ghost use lib.Seq.{sets};
 ghost use Rattle.def_standard.specs.Chunks.{valuesIn};
 ghost use Rattle.def_portions.specs.Lists.{tagPart, numberPart, laid};
 ghost use Rattle.ones.specs.Along.{along};
-ghost use Rattle.event_lists.specs.Laid.{Laid};
+ghost use Rattle.event_lists.specs.Laid.{Laid, numberTags};
 ghost use Rattle.event_lists.specs.Parts.{eventOf};
 use def_portions::Event;
 use def_standard::Echo;
@@ -72,6 +73,7 @@ pub fn put(tags: &mut [u64], numbers: &mut [u16], values: &mut [u64], n: usize, 
 // Stores the tag of a number so many times.
 fn put_tags(tags: &mut [u64], from: usize, to: usize)
     requires { ⌜ (from ≤ to) × (to ≤ length (now tags)) ⌝ }
+    ensures { λ r. ⌜ now (tags .exit) ≡ sets (now (tags .entry)) from (numberTags (to - from)) ⌝ }
 {
     let mut n = from;
     while n != to {

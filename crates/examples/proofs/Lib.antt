@@ -17,6 +17,10 @@ pub mod JobsOrder
 pub mod JobsSize
 pub mod JobsLargest
 pub mod Marks
+pub mod Portions
+pub mod PortionCalls
 pub mod Text
 pub mod Dump
+pub mod EventLines
 pub mod Probe
+pub mod ProbePortions

@@ -187,5 +187,5 @@ unfolding numbered answerOf filledOf pairUp headerOf placeOf walkFrom countOf lo
     marksText marksReply viewText viewReply answerTo
 not-served-hold =
     record {
-      others = (refl, refl, refl, refl);
+      others = (refl, refl, refl);
     }

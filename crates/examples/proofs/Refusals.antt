@@ -25,6 +25,8 @@ numbers-hold =
       row-14 = refl;
       row-15 = refl;
       row-17 = refl;
+      row-18 = refl;
+      row-19 = refl;
       in-a-row = refl;
     }
 

@@ -3,7 +3,7 @@
 -- Read in this order: Vectors (packets and job lists, a 32-bit word to a row), Examples (what is claimed of them),
 -- Rows (how the other files write bytes), then those of each definition crate: Refusals; Wire, WireWalk, WireBlock;
 -- Standard; Crate; Questions; Cursor, CursorCalls; Jobs, JobsLayout, JobsShown, JobsWriting, JobsOrder, JobsSize,
--- JobsLargest; Marks; Text; Dump; Probe.
+-- JobsLargest; Marks; Portions, PortionCalls; Text; Dump, EventLines; Probe, ProbePortions.
 pub mod Vectors
 pub mod Examples
 pub mod Rows
@@ -24,6 +24,10 @@ pub mod JobsOrder
 pub mod JobsSize
 pub mod JobsLargest
 pub mod Marks
+pub mod Portions
+pub mod PortionCalls
 pub mod Text
 pub mod Dump
+pub mod EventLines
 pub mod Probe
+pub mod ProbePortions

@@ -5,7 +5,8 @@ use mathlib.Core.List.{List, [], _∷_}
 use Rattle.def_refusals.specs.declared.Refusal.the-variants.{TooShort, WrongVersion, WrongPacketType, WrongLength}
 use Rattle.def_refusals.specs.declared.Refusal.the-variants.{BadPadding, BlockTooLong, NoBlock, OtherType}
 use Rattle.def_refusals.specs.declared.Refusal.the-variants.{BadBlockLength, NoFields, NoPlace, NoRoom, ValueTooLarge}
-use Rattle.def_refusals.specs.declared.Refusal.the-variants.{BadRecord, TooMany, Misleads, BadMark}
+use Rattle.def_refusals.specs.declared.Refusal.the-variants.{BadRecord, TooMany, Misleads, BadMark, Padded}
+use Rattle.def_refusals.specs.declared.Refusal.the-variants.{PastEnd}
 use Rattle.def_refusals.specs.declared.Answer.{Answer}
 use Rattle.def_refusals.specs.declared.Answer.the-variants.{Done, Refused}
 use Rattle.def_refusals.specs.declared.Checked.the-variants.{Fine, Unfit}
@@ -44,6 +45,9 @@ pub record Numbers : Type 0 where
   pub row-14 : numbered (TooMany 32 31) ≡ no 14 32 31
   pub row-15 : numbered (Misleads 7) ≡ no 15 7 0
   pub row-17 : numbered (BadMark 9) ≡ no 17 9 0
+  pub row-18 : numbered Padded ≡ no 18 0 0
+  -- announced, given in all
+  pub row-19 : numbered (PastEnd 8 9) ≡ no 19 8 9
   -- number, first value, second value
   pub in-a-row : row 1 2 3 ≡ no 1 2 3
 

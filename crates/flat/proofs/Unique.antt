@@ -12,6 +12,7 @@ use Rattle.flat.proofs.fields.Reads as fields
 use Rattle.flat.proofs.time.Reads as time
 use Rattle.flat.proofs.stretch.Reads as stretch
 use Rattle.flat.proofs.kind_number.Reads as kind-number
+use Rattle.flat.proofs.followed.Reads as followed
 
 pub reading-unique : (κs : Lfts 0) → Fixes (reading.Post κs) (λ r s. r)
 reading-unique κs a r₁ r₂ s₁ s₂ p q = p ∙ sym q
@@ -39,3 +40,6 @@ stretch-unique κs a r₁ r₂ s₁ s₂ p q = p ∙ sym q
 
 pub kind-number-unique : (κs : Lfts 0) → Fixes (kind-number.Post κs) (λ r s. r)
 kind-number-unique κs a r₁ r₂ s₁ s₂ p q = p ∙ sym q
+
+pub followed-unique : (κs : Lfts 0) → Fixes (followed.Post κs) (λ r s. r)
+followed-unique κs a r₁ r₂ s₁ s₂ p q = p ∙ sym q

@@ -12,6 +12,8 @@ use Rattle.def_refusals.specs.declared.Refusal.{Refusal}
 use Rattle.def_refusals.specs.declared.Numbered.{Numbered}
 use Rattle.def_refusals.specs.declared.Answer.{Answer}
 use Rattle.def_refusals.specs.declared.Answer.the-variants.{Done, Refused}
+use Rattle.def_refusals.specs.declared.Checked.{Checked}
+use Rattle.def_refusals.specs.declared.Checked.the-variants.{Fine, Unfit}
 use Rattle.def_refusals.specs.Numbers.{numbered}
 use Rattle.def_wire.specs.declared.Reading.{Reading}
 use Rattle.def_wire.specs.declared.Reading.the-variants.{Standard, Crate}
@@ -33,7 +35,9 @@ use Rattle.def_cursor.specs.Cursor.{start}
 use Rattle.flat.specs.declared.Flat.{Flat}
 use Rattle.flat.specs.declared.FlatStretch.{FlatStretch}
 use Rattle.flat.specs.declared.FlatFields.{FlatFields}
+use Rattle.states.specs.declared.Followed.{Followed}
 use Rattle.flat.specs.declared.FlatBlock.{FlatBlock}
+use Rattle.flat.specs.declared.FlatFollowed.{FlatFollowed}
 
 -- 0 asks for the standard reading, anything else for the crate's
 unfoldable pub readingOf : ℕ → Reading
@@ -131,3 +135,23 @@ flatBlock r s at = record {
   kind = typeOf (viewFrom r s at);
   specific = specificOf (viewFrom r s at);
 }
+
+-- code 0, where nothing is refused
+unfoldable pub flatChecked : Checked → Flat
+flatChecked Fine = found 0 0
+flatChecked (Unfit x) = flatRefusal x
+
+-- a call on a packet that comes in portions
+abbrev pub followedRow : Flat → Followed → FlatFollowed
+followedRow f r =
+    record {
+      code = f .code;
+      first = f .first;
+      second = f .second;
+      taken = r .taken;
+      events = r .events;
+      state = r .state;
+    }
+
+unfoldable pub flatFollowed : Followed → FlatFollowed
+flatFollowed r = followedRow (flatChecked (r .refusal)) r

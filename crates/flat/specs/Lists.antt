@@ -11,9 +11,13 @@ use Rattle.def_standard.specs.declared.Echo.{Echo}
 use Rattle.def_questions.specs.Questions.{least3}
 use Rattle.def_cursor.specs.declared.Cursor.{Cursor}
 use Rattle.def_cursor.specs.Cursor.{advanceBy, filledBy, onViewAdvanced, onViewFilled}
+use Rattle.def_portions.specs.Lists.{tagPart, numberPart, valuePart, laid}
+use Rattle.states.specs.declared.Portions.{Portions}
+use Rattle.states.specs.Call.{followedOf, givenOf}
 use Rattle.flat.specs.declared.Flat.{Flat}
+use Rattle.flat.specs.declared.FlatFollowed.{FlatFollowed}
 use Rattle.flat.specs.declared.FlatStretch.{FlatStretch}
-use Rattle.flat.specs.Flat.{flatOf, flatStretch}
+use Rattle.flat.specs.Flat.{flatOf, flatStretch, flatFollowed}
 
 -- the contract of a call that lists into one lent list: def_refusals' `Listed`, its answer flat
 pub record FlatListed (whole : Or (List ℕ)) (out : List ℕ) (r : Flat) (out′ : List ℕ) : Type 0 where
@@ -38,3 +42,10 @@ pub record FlatStretched (s : List ℕ) (k t : ℕ) (c : Cursor) (budget : ℕ) 
     (out′ : List ℕ) : Type 0 where
   pub answer : r ≡ flatStretch (onViewAdvanced (viewOf Standard s k) (λ v. advanceBy t v c budget (length out)))
   pub filled : out′ ≡ onViewFilled (viewOf Standard s k) (λ v. filledBy t v c budget out) out
+
+-- states' `Following`
+pub record FlatFollowing (st : Portions) (x t u v : List ℕ) (r : FlatFollowed) (t′ u′ v′ : List ℕ) : Type 0 where
+  pub answer : r ≡ flatFollowed (followedOf st x (least3 t u v))
+  pub tags : t′ ≡ laid tagPart (givenOf st x (least3 t u v)) 0 t
+  pub numbers : u′ ≡ laid numberPart (givenOf st x (least3 t u v)) 0 u
+  pub values : v′ ≡ laid valuePart (givenOf st x (least3 t u v)) 0 v

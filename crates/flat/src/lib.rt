@@ -1,9 +1,10 @@
 // The library's answers as numbers, for callers in other languages: each a flat copy of an answer.
 ghost use mathlib.Core.Path.{_≡_};
 ghost use Rattle.flat.specs.Flat.{readingOf, chunkAsked, flatRefusal, flatOf, flatLocated, flatFields};
-ghost use Rattle.flat.specs.Flat.{flatTime, flatStretch, flatChunk};
+ghost use Rattle.flat.specs.Flat.{flatTime, flatStretch, flatChunk, flatChecked, flatFollowed};
 use def_cursor::Advanced;
 use def_refusals::Answer;
+use def_refusals::Checked;
 use def_refusals::Refusal;
 use def_standard::Chunk;
 use def_wire::FieldsOr;
@@ -11,6 +12,8 @@ use def_wire::Located;
 use def_wire::LongTime;
 use def_wire::Reading;
 use def_wire::TimeOr;
+use states::Followed;
+use states::Portions;
 
 // Code 0 and what was found; or RULES' number of the refusal and its two values.
 #[repr(C)]
@@ -55,6 +58,18 @@ pub struct FlatBlock {
     pub length: u32,
     pub kind: u8,
     pub specific: u8,
+}
+
+// The answer to a call on a packet that comes in portions: code 0 or the refusal, how many bytes were taken, how many
+// events were listed, and the state for the next call.
+#[repr(C)]
+pub struct FlatFollowed {
+    pub code: u32,
+    pub first: u64,
+    pub second: u64,
+    pub taken: u64,
+    pub events: u64,
+    pub state: Portions,
 }
 
 // The reading that a number asks for.
@@ -226,5 +241,36 @@ pub fn kind_number(c: Chunk) -> Flat
             first: 3,
             second: v as u64,
         },
+    }
+}
+
+// Whether something is refused: code 0 and no values where it is not.
+fn checked(c: Checked) -> Flat
+    ensures { λ f. ⌜ f ≡ flatChecked c ⌝ }
+{
+    match c {
+        Checked::Fine => Flat {
+            code: 0,
+            first: 0,
+            second: 0,
+        },
+        Checked::Unfit(x) => refusal(x),
+    }
+}
+
+// A call on a packet that comes in portions.
+pub fn followed(r: Followed) -> FlatFollowed
+    ensures { λ f. ⌜ f ≡ flatFollowed r ⌝ }
+{
+    let c = r.refusal;
+    let f = checked(c);
+    let s = r.state;
+    FlatFollowed {
+        code: f.code,
+        first: f.first,
+        second: f.second,
+        taken: r.taken as u64,
+        events: r.events as u64,
+        state: s,
     }
 }

@@ -3,10 +3,11 @@
 --     call-answer     its answer: state, count and refusal
 --     call-given      the events that it lists
 --     call-keeps      the bytes taken then are within the announced length again
-use Prim.Native.Nat.{ℕ}
+use Prim.Native.Nat.{ℕ, _-_}
 use mathlib.Core.Path.{_≡_, refl, sym, ap, ap₂, _∙_}
 use mathlib.Core.List.{List, _++_}
-use lib.ListN.{length, drop}
+use native.Mathlib.Omega.{arith}
+use lib.ListN.{length, drop, length-append}
 use lib.Seq.{drop-append-seam}
 use Rattle.utils.proofs.BytesLaws.{Bytes}
 use Rattle.def_refusals.specs.declared.Checked.{Checked}
@@ -64,11 +65,18 @@ module _ (b x : List ℕ) (room : ℕ) (y : Bytes (b ++ x)) (p : pastFault b ≡
 
   -- an answer, by what a call gives
   abbrev answered : Call → Followed
-  answered c = record { state = after start (c .taken); events = length (c .events); refusal = c .refusal }
+  answered c =
+      record {
+        state = after start (c .taken);
+        taken = length (c .taken) - length b;
+        events = length (c .events);
+        refusal = c .refusal;
+      }
 
   answer-by : (f : Checked) → followedBy f (after start b) x ≡ answered (byFault f)
-  answer-by Fine = rw (after-append start b x)
-  answer-by (Unfit r) = refl
+  answer-by Fine =
+      let e : length (b ++ x) - length b ≡ length x = omega (arith, length-append b x) in rw (after-append start b x, e)
+  answer-by (Unfit r) = let e : length b - length b ≡ 0 = omega arith in rw e
 
   given-by : (f : Checked) → givenBy f (after start b) x ≡ byFault f .events
   given-by Fine = refl
@@ -85,6 +93,7 @@ module _ (b x : List ℕ) (room : ℕ) (y : Bytes (b ++ x)) (p : pastFault b ≡
   pub call-answer : followedOf (after start b) x room
       ≡ record {
         state = after start (callOf b x room .taken);
+        taken = length (callOf b x room .taken) - length b;
         events = length (callOf b x room .events);
         refusal = callOf b x room .refusal;
       }

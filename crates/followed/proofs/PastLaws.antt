@@ -2,14 +2,14 @@
 --     past-reached     where no refusal stays
 use Prim.Native.Nat.{ℕ, _+_, _-_, _≤_, _<_}
 use mathlib.Core.Path.{_≡_, refl, sym, ap, ap₂, _∙_}
-use mathlib.Core.Bool.{cond}
+use mathlib.Core.Bool.{true, cond}
 use mathlib.Core.List.{List, [], _∷_, _++_}
 use native.Mathlib.Omega.{arith}
 use lib.ListN.{length, take, length-append}
 use lib.Seq.{take-append-add}
 use lib.Dec.{ltb, leb, eqb}
-use borrow.Author.Tests.{ltb-true, ltb-false, lt-ltb, le-ltb, le-leb, lt-leb}
-use Rattle.laws.proofs.Tests.{either}
+use borrow.Author.Tests.{eqb-true, ltb-true, ltb-false, lt-ltb, le-ltb, le-leb, lt-leb}
+use Rattle.laws.proofs.Tests.{either, and-false-r}
 use Rattle.utils.proofs.BytesLaws.{Bytes}
 use Rattle.def_refusals.specs.declared.Refusal.the-variants.{PastEnd}
 use Rattle.def_refusals.specs.declared.Checked.{Checked}
@@ -21,7 +21,7 @@ use Rattle.def_portions.specs.Calls.{whereGood, pastFault}
 use Rattle.states.specs.declared.Portions.{Portions}
 use Rattle.states.specs.Steps.{state, head, known, start, heldOver, low32, goodLength, whereFine}
 use Rattle.states.specs.Steps.{faultOf, after}
-use Rattle.states.specs.Call.{announcedBy, takenIn, pastOf}
+use Rattle.states.specs.Call.{announcedBy, takenIn, pastBy, pastOf}
 use Rattle.followed.specs.Run.{runOf}
 use Rattle.followed.proofs.ItemRun.{not-zero, item-kept}
 use Rattle.followed.proofs.ValueLaws.{bytes-front}
@@ -31,16 +31,16 @@ use Rattle.followed.proofs.GoingLaws.{asks, at-sender, Counts}
 use Rattle.followed.proofs.TakenLaws.{going, Past, going-past}
 
 -- 19, by the announced length and the bytes in all; where no length is known, none
-abbrev pastBy : ℕ → ℕ → Checked
-pastBy a n = cond (eqb a 0) Fine (need (leb n a) (PastEnd a n))
+abbrev pastWhere : ℕ → ℕ → Checked
+pastWhere a n = cond (eqb a 0) Fine (pastBy a n)
 
-past-by : (s : List ℕ) → 4 ≤ length s → pastFault s ≡ pastBy (goodLength s) (length s)
+past-by : (s : List ℕ) → 4 ≤ length s → pastFault s ≡ pastWhere (goodLength s) (length s)
 unfolding pastFault
 past-by s h = rw (le-ltb (length s) 4 h) (by (headFault s) refl)
   where
     by : (f : Checked) → headFault s ≡ f
         → whereGood (headFault s) (need (leb (length s) (announcedOf s)) (PastEnd (announcedOf s) (length s)))
-        ≡ pastBy (goodLength s) (length s)
+        ≡ pastWhere (goodLength s) (length s)
     by Fine e = rw (e, not-zero (announcedOf s) (omega arith))
     by (Unfit r) e = rw e
 
@@ -54,9 +54,13 @@ unfolding heldOver
 held-append item h [] y = refl
 held-append item h (b ∷ x) y = held-append item _ x y
 
-past-of : (st : Portions) (x : List ℕ) → pastOf st x ≡ pastBy (announcedBy st x) (takenIn st + length x)
+past-of : (st : Portions) (x : List ℕ) → (announcedBy st x ≡ 0 → eqb (st .item) head ≡ true)
+    → pastOf st x ≡ pastWhere (announcedBy st x) (takenIn st + length x)
 unfolding pastOf
-past-of st x = refl
+past-of st x h =
+    either (eqb (announcedBy st x) 0)
+    (λ t. rw (t, h (eqb-true _ _ t)))
+    (λ f. rw (f, and-false-r (eqb (st .item) head)))
 
 -- four bytes read back
 four-good : (s : List ℕ) → 4 ≤ length s → Bytes s
@@ -103,7 +107,7 @@ module _ (b x : List ℕ) (h : length b < 4) where
   unfolding start
   past-early y =
       rw (item-kept head 4 0 0 (known 0 0 0 0 0) b h)
-      (past-of begun x
+      (past-of begun x (λ z. refl)
       ∙ (rw (taken-early, ← length-append b x)
       (either (ltb (length (b ++ x)) 4)
       (λ t. let l : length (b ++ x) < 4 = ltb-true _ _ t in rw (announced-few l) (sym (past-few (b ++ x) l)))
@@ -142,8 +146,10 @@ module _ (a b c d : ℕ) (z : List ℕ) (y : Bytes (a ∷ b ∷ c ∷ d ∷ z)) 
   past-late e p x =
       let h = head-good e (headFault s) refl in
       let r = reached e p h in
-      past-of (after start s) x
-      ∙ ap₂ pastBy (r .length x ∙ sym (ap (λ (f : Checked). whereFine f (announcedOf s)) h))
+      let least : 8 ≤ announcedOf s = head-least s h in
+      let some : announcedBy (after start s) x ≡ announcedOf s = r .length x in
+      past-of (after start s) x (λ z. absurd (omega (arith, some, z)))
+      ∙ ap₂ pastWhere (r .length x ∙ sym (ap (λ (f : Checked). whereFine f (announcedOf s)) h))
       (ap (λ (n : ℕ). n + length x) (r .taken) ∙ sym (length-append s x))
       ∙ sym (past-by (s ++ x) (omega arith))
 

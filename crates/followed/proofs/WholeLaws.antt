@@ -30,6 +30,7 @@ use Rattle.def_portions.specs.declared.Event.{Event}
 use Rattle.def_portions.specs.declared.Event.the-variants.{Header, End}
 use Rattle.def_portions.specs.Events.{course, then, ruleOf, headFault, blockFault, kindEvents, blockEvents}
 use Rattle.def_portions.specs.Events.{blocksFrom, courseOf}
+use Rattle.def_portions.specs.Calls.{pastFault}
 use Rattle.xr.proofs.WalkLaws.{no, done-eq, count-done}
 use Rattle.followed.specs.Whole.{viewOf, kindPart, partOf, partsFrom, wholeOf}
 use Rattle.followed.proofs.KindLaws.{kind-type}
@@ -168,3 +169,13 @@ whole s n c p f =
     rw (le-ltb (length s) 4 (omega arith), a .good, le-ltb (length s) 8 g, a .all)
     (ap (then (Header (length s) (ssrcOf s) ∷ []))
     (rw z at (whole-blocks s (length s) 0 n w g (omega arith) (λ i j. f i))))
+
+-- such a packet has no more bytes than it announces
+pub whole-within : (s : List ℕ) (n : ℕ) → countOf Standard s ≡ Done n → isPadded s ≡ false → pastFault s ≡ Fine
+unfolding pastFault
+whole-within s n c p =
+    let d = count-done Standard s n c in
+    let a = accepted s (d .stop) p (d .header) in
+    let g = a .least in
+    let e : length s ≤ announcedOf s = omega (arith, a .all) in
+    rw (le-ltb (length s) 4 (omega arith), a .good, le-leb _ _ e)

@@ -10,7 +10,7 @@ ghost use Rattle.def_probe.specs.Requests.{replyText, isTold, answerTo, reading
 ghost use Rattle.def_probe.specs.Requests.{numbersText, wordsText, pairsText, entriesText, typedReply, listReply};
 ghost use Rattle.def_probe.specs.Requests.{wordsReply, numbersReply, shownText, shownReply, stretchText, stretchReply};
 ghost use Rattle.def_probe.specs.Requests.{writtenText, writtenReply, madeText, madeReply, parsedText, parsedReply};
-ghost use Rattle.def_probe.specs.Requests.{marksText, marksReply, viewText, viewReply};
+ghost use Rattle.def_probe.specs.Requests.{marksText, marksReply, viewText, viewReply, portionsReply};
 ghost use Rattle.probe.specs.Replied.{Replied, beginsWell};
 use def_cursor::Cursor;
 use def_jobs::Layout;
@@ -323,6 +323,19 @@ fn word_asked(p: &[u8], buf: &mut [u8], at: usize) -> Told
     cut(at)
 }
 
+// Kind 12: a packet in portions.
+fn portions_asked(p: &[u8], buf: &mut [u8], at: usize) -> Told
+    ensures { λ r. ⌜ Replied (now (buf .entry)) at (portionsReply (now (p .entry))) (now (buf .exit)) r ⌝ }
+{
+    if p.len() < 6 {
+        return cut(at);
+    }
+    if p.len() < 6 + 4 * little_endian::u16_from_le_bytes(p, 4) as usize {
+        return cut(at);
+    }
+    served(ask_portions::calls(p, buf, at))
+}
+
 // The answer to a request of a kind.
 pub fn answer(kind: u8, p: &[u8], buf: &mut [u8], at: usize) -> Told
     ensures { λ r. ⌜ Added (now (buf .entry)) at (replyText (answerTo kind (now (p .entry))))
@@ -341,6 +354,7 @@ pub fn answer(kind: u8, p: &[u8], buf: &mut [u8], at: usize) -> Told
         9 => words_asked(p, buf, at),
         10 => marks_asked(p, buf, at),
         11 => view_asked(p, buf, at),
+        12 => portions_asked(p, buf, at),
         14 => numbers_asked(p, buf, at),
         _ => cut(at),
     }

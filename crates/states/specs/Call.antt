@@ -5,7 +5,7 @@
 --     Following      the contract: the answer, and what the three lent lists then hold
 use Prim.Native.Nat.{ℕ, _+_, _-_, min}
 use mathlib.Core.Path.{_≡_}
-use mathlib.Core.Bool.{cond}
+use mathlib.Core.Bool.{cond, _&&_}
 use mathlib.Core.List.{List, []}
 use lib.ListN.{length, take}
 use lib.Dec.{leb, eqb}
@@ -35,18 +35,23 @@ announcedBy st x =
 unfoldable pub takenIn : Portions → ℕ
 takenIn st = cond (eqb (st .item) head) (4 - st .missing) (st .known .announced - st .behind - st .rest - st .missing)
 
--- 19
+-- 19, of the announced length and the bytes given in all
+abbrev pub pastBy : ℕ → ℕ → Checked
+pastBy announced given = need (leb given announced) (PastEnd announced given)
+
+-- not while the header is not known, or not good. Behind it the length is known: so no state takes more bytes than 32
+-- bits can say
 unfoldable pub pastOf : Portions → List ℕ → Checked
 pastOf st x =
-    cond (eqb (announcedBy st x) 0) Fine
-    (need (leb (takenIn st + length x) (announcedBy st x)) (PastEnd (announcedBy st x) (takenIn st + length x)))
+    cond (eqb (st .item) head && eqb (announcedBy st x) 0) Fine (pastBy (announcedBy st x) (takenIn st + length x))
 
 unfoldable pub callFault : Portions → List ℕ → ℕ → Checked
 callFault st x room = thenCheck (faultOf st) (thenCheck (pastOf st x) (roomFault (shows st x) room))
 
 abbrev pub followedBy : Checked → Portions → List ℕ → Followed
-followedBy Fine st x = record { state = after st x; events = length (shows st x); refusal = faultOf (after st x) }
-followedBy (Unfit y) st x = record { state = st; events = 0; refusal = Unfit y }
+followedBy Fine st x =
+    record { state = after st x; taken = length x; events = length (shows st x); refusal = faultOf (after st x) }
+followedBy (Unfit y) st x = record { state = st; taken = 0; events = 0; refusal = Unfit y }
 
 unfoldable pub followedOf : Portions → List ℕ → ℕ → Followed
 followedOf st x room = followedBy (callFault st x room) st x

@@ -68,9 +68,11 @@ pub struct Settled {
     pub events: usize,
 }
 
-// A call's answer: the state behind it, how many events it listed, and why it, or the packet, is refused.
+// A call's answer: the state behind it, how many of its bytes were taken (all or none), how many events it listed, and
+// why it, or the packet, is refused.
 pub struct Followed {
     pub state: Portions,
+    pub taken: usize,
     pub events: usize,
     pub refusal: Checked,
 }

@@ -16,7 +16,8 @@ ghost use Rattle.def_jobs.specs.Writing.{packetOf};
 ghost use Rattle.def_marks.specs.Marks.{marksAsked};
 ghost use Rattle.flat.specs.Flat.{readingOf, flatOf, flatLocated, flatFields, flatTime, chunkAsked};
 ghost use Rattle.flat.specs.Flat.{flatParsed, flatBlock, flatStretch, flatChunk};
-ghost use Rattle.flat.specs.Lists.{FlatListed, FlatPairs, FlatEntries, FlatStretched};
+ghost use Rattle.flat.specs.Lists.{FlatListed, FlatPairs, FlatEntries, FlatStretched, FlatFollowing};
+ghost use Rattle.states.specs.Steps.{start};
 use def_cursor::Cursor;
 use def_jobs::Layout;
 use def_refusals::Answer;
@@ -25,7 +26,9 @@ use def_wire::Located;
 use flat::Flat;
 use flat::FlatBlock;
 use flat::FlatFields;
+use flat::FlatFollowed;
 use flat::FlatStretch;
+use states::Portions;
 use xr::Parsed;
 use xr::Xr;
 
@@ -187,6 +190,30 @@ pub extern "C" fn xr_cursor(
         position,
     };
     flat::stretch(by_number::advance(packet, k, t, c, budget, out))
+}
+
+// The state before the first byte of a packet that comes in portions. Never refused.
+#[no_mangle]
+pub extern "C" fn xr_portions_start() -> Portions
+    ensures { λ a. ⌜ a ≡ start ⌝ }
+{
+    steps::start()
+}
+
+// Takes some bytes of such a packet, or none, and lists their events; the answer has the state for the next call: 1, 2,
+// 3, 18, 19, 11, 6, 7.
+#[no_mangle]
+pub extern "C" fn xr_follow(
+    state: Portions,
+    bytes: &[u8],
+    tags: &mut [u64],
+    numbers: &mut [u16],
+    values: &mut [u64],
+) -> FlatFollowed
+    ensures { λ a. ⌜ FlatFollowing state (now (bytes .entry)) (now (tags .entry)) (now (numbers .entry))
+        (now (values .entry)) a (now (tags .exit)) (now (numbers .exit)) (now (values .exit)) ⌝ }
+{
+    flat::followed(portions::follow(state, bytes, tags, numbers, values))
 }
 
 // How many blocks a packet has, and its sender's SSRC: 1 to 6.

@@ -74,6 +74,14 @@ returns-17 : tie.Need-returns-17
 unfolding numbered
 returns-17 c = c .row17 .ensures ∙ sym (ap numbered (c .before .before .x14 .given .1))
 
+returns-18 : tie.Need-returns-18
+unfolding numbered
+returns-18 c = c .row18 .ensures ∙ sym (ap numbered (c .before .enum-told4 .given .1))
+
+returns-19 : tie.Need-returns-19
+unfolding numbered
+returns-19 c = c .row19 .ensures ∙ sym (ap numbered (c .before .before .x15 .given .1))
+
 pub number-spec : {M : Type 1} → statement M
 number-spec =
     tie.close
@@ -83,6 +91,7 @@ number-spec =
     (λ c κs. search needs) (λ c. search needs) (λ c κs. search needs) (λ c. search needs) (λ c κs. search needs)
     (λ c. search needs) (λ c κs. search needs) (λ c. search needs) (λ c κs. search needs) (λ c. search needs)
     (λ c κs. search needs) (λ c. search needs) (λ c κs. search needs) (λ c. search needs) (λ c κs. search needs)
-    (λ c. search needs) (λ c κs. search needs) (λ c. search needs) (λ c κs. search needs) returns returns-2 returns-3
+    (λ c. search needs) (λ c κs. search needs) (λ c. search needs) (λ c κs. search needs) (λ c. search needs)
+    (λ c κs. search needs) (λ c. search needs) (λ c κs. search needs) returns returns-2 returns-3
     returns-4 returns-5 returns-6 returns-7 returns-8 returns-9 returns-10 returns-11 returns-12 returns-13 returns-14
-    returns-15 returns-16 returns-17)
+    returns-15 returns-16 returns-17 returns-18 returns-19)

@@ -1,0 +1,2 @@
+-- What the functions of this crate promise each other.
+pub mod Told

@@ -1,0 +1,137 @@
+// What xrprobe answers of a packet in portions (README, "xrprobe", kind 12): one call for each size, each from the first
+// byte that no call has taken on, and one more for what is then left. For each call its events' lines are added to the
+// buffer, then what it took or its refusal. `calls` promises that it has added exactly def_probe's text.
+ghost use Prim.Native.Nat.{_<_};
+ghost use mathlib.Core.Path.{_≡_};
+ghost use Rattle.def_text.specs.Buffer.{Added};
+ghost use Rattle.def_dump.specs.EventLines.{givenLine};
+ghost use Rattle.def_probe.specs.Requests.{portionsText};
+ghost use Rattle.ask_portions.specs.Told.{AllBytes};
+use def_refusals::Checked;
+use states::Portions;
+
+// The most room of a list.
+const MOST: usize = 16384;
+
+// What a call leaves: the state for the next one, how many bytes were taken, and what waits in the buffer.
+struct Told {
+    state: Portions,
+    taken: usize,
+    at: usize,
+}
+
+// A byte is under 256.
+fn is_byte(b: u8) -> bool
+    ensures { λ r. ⌜ b < 256 ⌝ }
+{
+    true
+}
+
+// So each number in a slice of bytes is: nothing is computed, and the compiler leaves the loop out.
+fn are_bytes(s: &[u8])
+    ensures { λ _. ⌜ AllBytes (now (s .entry)) ⌝ }
+{
+    let mut i: usize = 0;
+    while i < s.len() {
+        is_byte(s[i]);
+        i += 1;
+    }
+}
+
+// `taken B events K`.
+fn given_line(buf: &mut [u8], at: usize, given: usize, events: usize) -> usize
+    ensures { λ r. ⌜ Added (now (buf .entry)) at (givenLine given events) (now (buf .exit)) r ⌝ }
+{
+    let n = print::labelled(buf, at, b"taken", given as u64);
+    let m = print::labelled(buf, n, b" events", events as u64);
+    print::line_end(buf, m)
+}
+
+// One call: its events, then what it took or why it is refused.
+fn one(
+    st: Portions,
+    x: &[u8],
+    tags: &mut [u64],
+    numbers: &mut [u16],
+    values: &mut [u64],
+    buf: &mut [u8],
+    at: usize,
+) -> Told {
+    let r = portions::follow(st, x, tags, numbers, values);
+    let n = event_lines::event_lines(buf, at, tags, numbers, values, r.events);
+    let s = r.state;
+    let c = r.refusal;
+    match c {
+        Checked::Fine => Told {
+            state: s,
+            taken: r.taken,
+            at: given_line(buf, n, x.len(), r.events),
+        },
+        Checked::Unfit(y) => Told {
+            state: s,
+            taken: r.taken,
+            at: lines::refusal_line(buf, n, y),
+        },
+    }
+}
+
+// A call for each of n sizes, which stand in p from byte 6 on, and one for what is left.
+fn calls_into(
+    p: &[u8],
+    n: usize,
+    x: &[u8],
+    tags: &mut [u64],
+    numbers: &mut [u16],
+    values: &mut [u64],
+    buf: &mut [u8],
+    at: usize,
+) -> usize {
+    let mut st = steps::start();
+    let mut from: usize = 0;
+    let mut to = at;
+    let mut i: usize = 0;
+    while i < n {
+        let size = little_endian::u32_from_le_bytes(p, 6 + 4 * i) as usize;
+        let t = one(
+            st,
+            utils::part(x, from, size),
+            tags,
+            numbers,
+            values,
+            buf,
+            to,
+        );
+        st = t.state;
+        from += t.taken;
+        to = t.at;
+        i += 1;
+    }
+    let left = utils::part(x, from, x.len());
+    if left.len() == 0 {
+        return to;
+    }
+    let t = one(st, left, tags, numbers, values, buf, to);
+    t.at
+}
+
+// The answer to a request of kind 12, whose sizes are all there.
+pub fn calls(p: &[u8], buf: &mut [u8], at: usize) -> usize
+    ensures { λ n. ⌜ Added (now (buf .entry)) at (portionsText (now (p .entry))) (now (buf .exit)) n ⌝ }
+{
+    let mut tags = [0u64; MOST];
+    let mut numbers = [0u16; MOST];
+    let mut values = [0u64; MOST];
+    let room = utils::lesser(little_endian::u32_from_le_bytes(p, 0) as usize, MOST);
+    let n = little_endian::u16_from_le_bytes(p, 4) as usize;
+    are_bytes(p);
+    calls_into(
+        p,
+        n,
+        utils::part(p, 6 + 4 * n, p.len()),
+        &mut tags[0..room],
+        &mut numbers[0..room],
+        &mut values[0..room],
+        buf,
+        at,
+    )
+}

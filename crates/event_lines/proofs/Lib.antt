@@ -1,0 +1,3 @@
+-- EventLineLaws (the lines of the events of three lists, as a loop goes through them).
+pub mod EventLineLaws
+pub mod Unique

@@ -1,0 +1,65 @@
+-- Packets in portions, by computation.
+use mathlib.Core.Path.{refl}
+use Rattle.def_wire.specs.Bytes.{pairUp}
+use Rattle.def_wire.specs.Block.{rleOf, rangedOf, kindOf, standardRule}
+use Rattle.def_standard.specs.Chunks.{valuesIn}
+use Rattle.def_standard.specs.Range.{rangeOf, offsetOf, inside, numberOf}
+use Rattle.def_standard.specs.Standard.{valuesOf, numbersFrom, pairsFrom, echoesOf}
+use Rattle.def_portions.specs.Events.{headFault, blockFault, kindEvents, blocksFrom, courseOf}
+use Rattle.examples.specs.Portions.{HeadFaults, BlockFaults, BlockSoFar, SoFar}
+
+pub head-faults-hold : HeadFaults
+unfolding pairUp rleOf rangedOf kindOf standardRule valuesIn rangeOf offsetOf inside numberOf valuesOf numbersFrom pairsFrom
+    echoesOf headFault blockFault kindEvents blocksFrom courseOf
+head-faults-hold =
+    record {
+      least = (refl, refl);
+      version = (refl, refl, refl);
+      packet-type = (refl, refl);
+      padding = refl;
+      order = (refl, refl, refl);
+    }
+
+pub block-faults-hold : BlockFaults
+unfolding pairUp rleOf rangedOf kindOf standardRule valuesIn rangeOf offsetOf inside numberOf valuesOf numbersFrom pairsFrom
+    echoesOf headFault blockFault kindEvents blocksFrom courseOf
+block-faults-hold =
+    record {
+      too-long = (refl, refl, refl, refl);
+      ranges = (refl, refl, refl, refl);
+      clocks = (refl, refl, refl);
+      echoes = (refl, refl, refl, refl);
+      others = (refl, refl);
+      six-first = (refl, refl);
+    }
+
+pub block-so-far-hold : BlockSoFar
+unfolding pairUp rleOf rangedOf kindOf standardRule valuesIn rangeOf offsetOf inside numberOf valuesOf numbersFrom pairsFrom
+    echoesOf headFault blockFault kindEvents blocksFrom courseOf
+block-so-far-hold =
+    record {
+      of-loss = (refl, refl, refl, refl, refl, refl, refl);
+      of-duplicates = (refl, refl);
+      of-times = (refl, refl, refl, refl, refl);
+      of-clock = (refl, refl, refl);
+      of-echoes = (refl, refl, refl, refl, refl);
+      of-others = (refl, refl, refl);
+    }
+
+pub so-far-hold : SoFar
+unfolding pairUp rleOf rangedOf kindOf standardRule valuesIn rangeOf offsetOf inside numberOf valuesOf numbersFrom pairsFrom
+    echoesOf headFault blockFault kindEvents blocksFrom courseOf
+so-far-hold =
+    record {
+      nothing = (refl, refl);
+      judged = (refl, refl);
+      header = (refl, refl, refl);
+      empty = refl;
+      blocks = (refl, refl, refl, refl, refl, refl, refl);
+      last = (refl, refl, refl);
+      smallest = refl;
+      own = refl;
+      no-fuel = refl;
+      seven = (refl, refl, refl);
+      six = (refl, refl);
+    }

@@ -1,0 +1,53 @@
+-- What a packet's and a block's first four bytes show, by the tests that lead there: the one place that unfolds
+-- `headFault` and `blockFault`. Assumes nothing.
+use Prim.Native.Nat.{ℕ, _/_, _%_, _≤_, _<_}
+use mathlib.Core.Path.{_≡_}
+use mathlib.Core.List.{List}
+use native.Mathlib.Omega.{arith}
+use borrow.Author.Tests.{le-leb, lt-leb, eq-eqb, ne-eqb}
+use Rattle.def_refusals.specs.declared.Refusal.the-variants.{TooShort, WrongVersion, WrongPacketType, Padded}
+use Rattle.def_refusals.specs.declared.Refusal.the-variants.{BlockTooLong}
+use Rattle.def_refusals.specs.declared.Checked.the-variants.{Fine, Unfit}
+use Rattle.def_wire.specs.Bytes.{byteAt}
+use Rattle.def_wire.specs.Packet.{announcedOf}
+use Rattle.def_wire.specs.Block.{typeOf, blockLength, kindOf}
+use Rattle.def_portions.specs.Events.{headFault, blockFault, ruleOf}
+
+-- the packet's first four bytes v: the length that they announce, the first byte and the second are known by equations
+module _ (v : List ℕ) (l : ℕ) (e : l ≡ announcedOf v) where
+  pub head-short : l < 8 → Unfit (TooShort 8 l) ≡ headFault v
+  unfolding headFault
+  head-short h = let k : announcedOf v < 8 = omega arith in rw (e, lt-leb 8 _ k)
+
+  module _ (long : 8 ≤ l) (first : ℕ) (f : first ≡ byteAt v 0) where
+    pub head-version : (first / 64 ≡ 2 → ⊥) → Unfit WrongVersion ≡ headFault v
+    unfolding headFault
+    head-version n = let k : 8 ≤ announcedOf v = omega arith in
+        rw (le-leb 8 _ k, ne-eqb _ _ (rw f at n))
+
+    module _ (good : first / 64 ≡ 2) (second : ℕ) (s : second ≡ byteAt v 1) where
+      pub head-type : (second ≡ 207 → ⊥) → Unfit WrongPacketType ≡ headFault v
+      unfolding headFault
+      head-type n = let k : 8 ≤ announcedOf v = omega arith in
+          rw (le-leb 8 _ k, eq-eqb _ _ (rw f at good), ne-eqb _ _ (rw s at n))
+
+      module _ (type : second ≡ 207) where
+        pub head-padded : first / 32 % 2 ≡ 1 → Unfit Padded ≡ headFault v
+        unfolding headFault
+        head-padded p = let k : 8 ≤ announcedOf v = omega arith in
+            rw (le-leb 8 _ k, eq-eqb _ _ (rw f at good), eq-eqb _ _ (rw s at type), eq-eqb _ _ (rw f at p))
+
+        pub head-fine : (first / 32 % 2 ≡ 1 → ⊥) → Fine ≡ headFault v
+        unfolding headFault
+        head-fine p = let k : 8 ≤ announcedOf v = omega arith in
+            rw (le-leb 8 _ k, eq-eqb _ _ (rw f at good), eq-eqb _ _ (rw s at type), ne-eqb _ _ (rw f at p))
+
+-- a block's first four bytes v, with so many bytes left for blocks
+module _ (left : ℕ) (v : List ℕ) (l : ℕ) (e : l ≡ blockLength v) where
+  pub block-long : left < l → Unfit (BlockTooLong l left) ≡ blockFault left v
+  unfolding blockFault
+  block-long h = let k : left < blockLength v = omega arith in rw (e, lt-leb _ left k)
+
+  pub block-rule : l ≤ left → ruleOf (kindOf (typeOf v)) l ≡ blockFault left v
+  unfolding blockFault
+  block-rule h = let k : blockLength v ≤ left = omega arith in rw (e, le-leb _ left k)
