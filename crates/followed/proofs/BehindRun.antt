@@ -13,7 +13,7 @@ use native.Mathlib.Omega.{arith}
 use lib.ListN.{length, take, drop, length-append, take-append-drop}
 use lib.Seq.{length-take-le, drop-append-add}
 use lib.Dec.{ltb, eqb}
-use borrow.Author.Tests.{lt-ltb, le-ltb, ltb-true, ltb-false, eqb-true, ne-eqb, eqb-false}
+use borrow.Author.Tests.{lt-ltb, le-ltb, ltb-true, ltb-false, eqb-true, eqb-false}
 use Rattle.laws.proofs.Tests.{either}
 use Rattle.def_refusals.specs.declared.Checked.{Checked}
 use Rattle.def_refusals.specs.declared.Checked.the-variants.{Fine, Unfit}
@@ -22,7 +22,7 @@ use Rattle.def_portions.specs.Events.{course, quiet}
 use Rattle.states.specs.declared.Known.{Known}
 use Rattle.states.specs.Steps.{state, block, over, known, itemFault, nextBlock, opened, passed, shownBy, loneOf}
 use Rattle.followed.specs.Run.{runOf, opening, ending}
-use Rattle.followed.proofs.ItemRun.{whole, item-open, item-passed, item-refused, over-run}
+use Rattle.followed.proofs.ItemRun.{not-zero, whole, item-open, item-passed, item-refused, over-run}
 
 ltb-shift : (n a b : ℕ) → ltb (n + a) (n + b) ≡ ltb a b
 ltb-shift n a b =
@@ -42,7 +42,7 @@ module _ (k : Known) where
   pub next-block : (behind : ℕ) (bs : List ℕ) → 0 < behind
       → opening (nextBlock k behind) bs ≡ runOf (state block 4 0 0 (behind - 4) k) bs
   unfolding nextBlock opening
-  next-block behind bs h = rw (ne-eqb behind 0 (λ (e : behind ≡ 0). absurd (omega arith)))
+  next-block behind bs h = rw (not-zero behind h)
 
   -- a block's first four bytes overwrite what was known of the block before
   block-whole : (behind : ℕ) (bs x : List ℕ) → length bs ≡ 4 → (c : Checked)
@@ -100,7 +100,7 @@ module _ (k : Known) (rest behind item size : ℕ) (bs : List ℕ) where
   pub opened-item : eqb item over ≡ false → 0 < rest
       → opening (opened k rest behind item size) bs ≡ runOf (state item size 0 (rest - size) behind k) bs
   unfolding opened opening
-  opened-item o h = rw (ne-eqb rest 0 (λ (e : rest ≡ 0). absurd (omega arith)), o)
+  opened-item o h = rw (not-zero rest h, o)
 
   pub opened-none : rest ≡ 0 → opening (opened k rest behind item size) bs ≡ ending (k .announced) 0 behind bs
   unfolding opened

@@ -1,52 +1,27 @@
 -- One block, from its first byte on, as far as its bytes have come. Assumes bytes below 256.
---     Good          a block whose first four bytes are not refused
 --     block-run     a refusal, or its events and then what is behind it
 use Prim.Native.Nat.{ℕ, _+_, _-_, _≤_}
 use mathlib.Core.Path.{_≡_, refl, ap, ap₂, _∙_}
-use mathlib.Core.Bool.{Bool, true, false}
 use mathlib.Core.List.{List, [], _∷_, _++_}
-use native.Mathlib.Nat.{mod-eq-of-lt}
 use native.Mathlib.Omega.{arith}
 use lib.ListN.{length, take, drop}
 use lib.Seq.{take-append-add}
-use lib.Dec.{leb}
-use borrow.Author.Tests.{leb-true}
 use Rattle.utils.proofs.BytesLaws.{Bytes}
 use Rattle.def_refusals.specs.declared.Refusal.{Refusal}
 use Rattle.def_refusals.specs.declared.Checked.{Checked}
 use Rattle.def_refusals.specs.declared.Checked.the-variants.{Fine, Unfit}
-use Rattle.def_refusals.specs.Answers.{thenCheck}
-use Rattle.def_wire.specs.Bytes.{be32, four}
+use Rattle.def_wire.specs.Bytes.{four}
 use Rattle.def_wire.specs.Block.{typeOf, blockLength, kindOf}
-use Rattle.def_portions.specs.Events.{Course, course, then, unless, need, ruleOf, blockFault, blockEvents}
+use Rattle.def_portions.specs.Events.{Course, course, then, unless, blockFault, blockEvents}
 use Rattle.states.specs.declared.Known.{Known}
 use Rattle.states.specs.Steps.{state, block, known, heldOver, low32, itemFault, passed, shownBy, loneOf, inBlock}
 use Rattle.states.specs.Steps.{openedBy, startIn, listOf}
 use Rattle.followed.specs.Run.{runOf, opening, ending}
 use Rattle.followed.proofs.ItemRun.{whole, item-passed, item-refused}
-use Rattle.followed.proofs.ValueLaws.{held-four, be32-lt, four-held, bytes-take, bytes-drop}
+use Rattle.followed.proofs.ValueLaws.{held-low, held-back, bytes-take, bytes-drop}
+use Rattle.followed.proofs.CheckLaws.{good-block}
 use Rattle.followed.proofs.RangedRun.{header}
 use Rattle.followed.proofs.KindRun.{inner}
-
--- a check that is fine, in two parts
-pub both-fine : (x y : Checked) → thenCheck x y ≡ Fine → (x ≡ Fine) × (y ≡ Fine)
-both-fine Fine y e = (refl, e)
-both-fine (Unfit r) y e = let z : _≡_ {A = ℕ} 0 1 = cc in absurd (omega arith)
-
-pub need-fine : (t : Bool) (r : Refusal) → need t r ≡ Fine → t ≡ true
-need-fine true r e = refl
-need-fine false r e = let z : _≡_ {A = ℕ} 0 1 = cc in absurd (omega arith)
-
--- a good block's length fits, and its rule holds
-pub record Good (left : ℕ) (v : List ℕ) : Type 0 where
-  pub fits : blockLength v ≤ left
-  pub rule : ruleOf (kindOf (typeOf v)) (blockLength v) ≡ Fine
-
-pub good-block : (left : ℕ) (v : List ℕ) → blockFault left v ≡ Fine → Good left v
-unfolding blockFault
-good-block left v e =
-    let p = both-fine (need (leb (blockLength v) left) _) (ruleOf (kindOf (typeOf v)) (blockLength v)) e in
-    record { fits = leb-true _ _ (need-fine _ _ (p .0)); rule = p .1 }
 
 -- one block, from its first byte on
 module _ (k : Known) (behind a b c d : ℕ) (y : Bytes (header a b c d)) (x : List ℕ) (u : Bytes x) where
@@ -57,11 +32,8 @@ module _ (k : Known) (behind a b c d : ℕ) (y : Bytes (header a b c d)) (x : Li
   abbrev size : ℕ
   size = blockLength hd - 4
 
-  value : low32 (heldOver block 0 hd) ≡ be32 hd 0
-  value = rw (held-four block refl hd refl y) (mod-eq-of-lt (be32-lt hd 0 y))
-
   back : four (low32 (heldOver block 0 hd)) ≡ hd
-  back = ap four value ∙ four-held hd refl y
+  back = held-back block refl hd refl y
 
   fault-held : itemFault (whole block 4 0 behind k hd) ≡ blockFault (behind + 4) hd
   fault-held = ap (blockFault (behind + 4)) back
@@ -83,7 +55,7 @@ module _ (k : Known) (behind a b c d : ℕ) (y : Bytes (header a b c d)) (x : Li
   unfolding passed shownBy loneOf inBlock
   block-passed f =
       item-passed block 4 0 behind k hd x (omega arith) refl (fault-held ∙ f)
-      ∙ ap₂ onward value back
+      ∙ ap₂ onward (held-low block refl hd refl y) back
       ∙ inner a b c d y (k .announced) (kindOf a) refl (good-block (behind + 4) hd f .rule) (behind - size) x u
 
   abbrev v : List ℕ

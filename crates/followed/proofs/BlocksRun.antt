@@ -21,7 +21,8 @@ use Rattle.followed.specs.Run.{runOf, opening, ending}
 use Rattle.followed.proofs.ItemRun.{item-open}
 use Rattle.followed.proofs.BehindRun.{next-over, next-block, ending-open, ending-done}
 use Rattle.followed.proofs.ValueLaws.{bytes-drop}
-use Rattle.followed.proofs.BlockRun.{Good, good-block, block-run}
+use Rattle.followed.proofs.CheckLaws.{Good, good-block}
+use Rattle.followed.proofs.BlockRun.{block-run}
 
 -- the same bytes are the same length
 pub length-at : (s : List ℕ) (at : ℕ) → lengthAt s at ≡ blockLength (drop at s)
@@ -79,7 +80,8 @@ module _ (s : List ℕ) (y : Bytes s) (stop : ℕ) (within : length s ≤ stop) 
         (block-run k (behind - 4) v x (bytes-drop at s y) f (rw z c) ∙ rest f c)
       where
         rest : (f : Checked) → blockFault behind v ≡ f
-            → unless f (then (blockEvents (take (blockLength v) v)) (ending (k .announced) n (behind - 4 - n) (drop 4 v)))
+            → unless f (then (blockEvents (take (blockLength v) v))
+            (ending (k .announced) n (behind - 4 - n) (drop 4 v)))
             ≡ unless f (then (blockEvents (take (blockLength v) v)) (blocksFrom s stop fuel (at + blockLength v)))
         rest Fine c = ap (then (blockEvents (take (blockLength v) v))) (tail (good-block behind v c))
         rest (Unfit r) c = refl

@@ -20,7 +20,7 @@ use Rattle.states.specs.Steps.{start, faultOf, after, shows}
 use Rattle.states.specs.Call.{pastOf, callFault, followedBy, followedOf, givenBy, givenOf}
 use Rattle.states.proofs.RunLaws.{after-append, shows-append}
 use Rattle.followed.proofs.ValueLaws.{bytes-front}
-use Rattle.followed.proofs.BlockRun.{both-fine}
+use Rattle.followed.proofs.CheckLaws.{both-fine}
 use Rattle.followed.proofs.CourseRun.{runs}
 use Rattle.followed.proofs.PastLaws.{past-reached}
 
@@ -33,7 +33,8 @@ module _ (b x : List ℕ) (room : ℕ) (y : Bytes (b ++ x)) (p : pastFault b ≡
   module _ (q : pastFault (b ++ x) ≡ Fine) where
     added-shows : added b (b ++ x) ≡ shows (after start b) x
     added-shows =
-        ap₂ (λ (c d : Course). drop (length (c .events)) (d .events)) (runs b (bytes-front b x y) p) (runs (b ++ x) y q)
+        ap₂ (λ (c d : Course). drop (length (c .events)) (d .events)) (runs b (bytes-front b x y) p)
+        (runs (b ++ x) y q)
         ∙ ap (drop (length (shows start b))) (shows-append start b x)
         ∙ drop-append-seam (shows start b) (shows (after start b) x)
 

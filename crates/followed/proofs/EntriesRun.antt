@@ -3,7 +3,6 @@
 use Prim.Native.Nat.{ℕ, _+_, _-_, _≤_, _<_}
 use mathlib.Core.Path.{_≡_, refl, sym, ap, _∙_}
 use mathlib.Core.List.{List, [], _∷_, _++_, map}
-use native.Mathlib.Nat.{mod-eq-of-lt}
 use native.Mathlib.Omega.{arith}
 use lib.ListN.{length, take, drop, take-append-drop, length-drop}
 use lib.Seq.{length-take-le}
@@ -22,7 +21,7 @@ use Rattle.states.specs.Steps.{state, known, whose, echo, heldOver, low32, high
 use Rattle.followed.specs.Run.{runOf, opening}
 use Rattle.followed.proofs.ItemRun.{item-open, item-passed}
 use Rattle.followed.proofs.BehindRun.{opened-item}
-use Rattle.followed.proofs.ValueLaws.{by-four, by-eight, held-four, held-eight, be32-lt, bytes-take, bytes-drop}
+use Rattle.followed.proofs.ValueLaws.{by-four, by-eight, held-low, held-eight, be32-lt, bytes-take, bytes-drop}
 use Rattle.followed.proofs.UnitsRun.{Units}
 
 -- an entry's numbers
@@ -82,10 +81,9 @@ entry-whole : (k : Known) (s t : List ℕ) → length s ≡ 4 → length t ≡ 8
     ≡ then (Entry (record { ssrc = be32 s 0; last = record { 0 = be32 t 0 }; delay = record { 0 = be32 t 4 } }) ∷ [])
     (opening (opened (passedBy k) rest behind whose 4) x)
 entry-whole k s t e f y z rest behind x =
-    let v : low32 (heldOver whose 0 s) ≡ be32 s 0 = rw (held-four whose refl s e y) (mod-eq-of-lt (be32-lt s 0 y)) in
     let r : 12 + rest - 4 - 8 ≡ rest = omega arith in
     whose-passed k rest behind s (t ++ x) e
-    ∙ (rw (v, r) (echo-passed (sent k rest behind (be32 s 0)) rest behind t x f z))
+    ∙ (rw (held-low whose refl s e y, r) (echo-passed (sent k rest behind (be32 s 0)) rest behind t x f z))
 
 -- twelve bytes
 by-twelve : (P : List ℕ → Type 0) → ((a b c d : ℕ) (t : List ℕ) → length t ≡ 8 → P (a ∷ b ∷ c ∷ d ∷ t))
@@ -102,7 +100,8 @@ echoes-short (s ∷ []) h = refl
 echoes-short (s ∷ l ∷ []) h = refl
 echoes-short (s ∷ l ∷ d ∷ ws) h = absurd (omega arith)
 
-entries-split : (p : ℕ) (bs x : List ℕ) → length bs ≡ 12 → entriesListed p (bs ++ x) ≡ Entry (entryAt bs) ∷ entriesListed p x
+entries-split : (p : ℕ) (bs x : List ℕ) → length bs ≡ 12
+    → entriesListed p (bs ++ x) ≡ Entry (entryAt bs) ∷ entriesListed p x
 unfolding echoesOf pairUp
 entries-split p bs x =
     by-twelve (λ s. entriesListed p (s ++ x) ≡ Entry (entryAt s) ∷ entriesListed p x)

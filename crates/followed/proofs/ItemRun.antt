@@ -28,6 +28,9 @@ use Rattle.followed.specs.Run.{runOf, opening}
 pub then-then : (a b : List Event) (c : Course) → then a (then b c) ≡ then (a ++ b) c
 then-then a b c = ap (λ (es : List Event). course es (c .fault)) (sym (append-assoc a b (c .events)))
 
+pub not-zero : (n : ℕ) → 0 < n → eqb n 0 ≡ false
+not-zero n h = ne-eqb n 0 (λ (e : n ≡ 0). absurd (omega arith))
+
 module _ (item n rest behind : ℕ) (k : Known) where
   -- the item with all its bytes
   abbrev pub whole : List ℕ → Portions
@@ -44,14 +47,14 @@ module _ (item n rest behind : ℕ) (k : Known) where
   pub item-open : (bs : List ℕ) → length bs < n → runOf (state item n 0 rest behind k) bs ≡ quiet
   unfolding runOf settled settledEvents faultOf after shows
   item-open bs h =
-      let f : eqb (n - length bs) 0 ≡ false = ne-eqb _ _ (λ (e : n - length bs ≡ 0). absurd (omega arith)) in
+      let f : eqb (n - length bs) 0 ≡ false = not-zero (n - length bs) (omega arith) in
       ap (runOf fresh) (sym (append-nil bs)) ∙ item-run bs [] (omega arith) (omega arith) ∙ (rw (f, f))
 
   -- the state where bytes are missing, and behind a complete item
   pub item-kept : (bs : List ℕ) → length bs < n → after (state item n 0 rest behind k) bs ≡ holds fresh bs
   unfolding settled after
   item-kept bs h =
-      let f : eqb (n - length bs) 0 ≡ false = ne-eqb _ _ (λ (e : n - length bs ≡ 0). absurd (omega arith)) in
+      let f : eqb (n - length bs) 0 ≡ false = not-zero (n - length bs) (omega arith) in
       ap (after fresh) (sym (append-nil bs)) ∙ item-after [] fresh bs (omega arith) (omega arith) ∙ (rw f)
 
   module _ (bs x : List ℕ) (h : 0 < n) (e : length bs ≡ n) where

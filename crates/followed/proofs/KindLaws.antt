@@ -1,20 +1,17 @@
--- Types and their length rules. Assumes nothing.
+-- Types and their kinds. Assumes nothing.
 --     kind-type      a type that has a kind is that kind's number
---     rule-fine      a length rule that is fine holds
 use Prim.Native.Nat.{ℕ}
 use mathlib.Core.Path.{_≡_, refl}
-use mathlib.Core.Bool.{Bool, true, false}
-use native.Mathlib.Omega.{arith}
+use mathlib.Core.Bool.{false}
 use lib.Dec.{eqb}
 use borrow.Author.Tests.{eqb-true}
 use Rattle.laws.proofs.Tests.{either}
-use Rattle.def_refusals.specs.declared.Checked.the-variants.{Fine}
 use Rattle.def_wire.specs.declared.Rle.{Rle}
 use Rattle.def_wire.specs.declared.Rle.the-variants.{Loss, Duplicate}
 use Rattle.def_wire.specs.declared.Kind.{Kind}
 use Rattle.def_wire.specs.declared.KindOr.{KindOr}
 use Rattle.def_wire.specs.declared.KindOr.the-variants.{AKind, NoKind}
-use Rattle.def_wire.specs.Block.{rleOf, rangedOf, kindOf, kindType, rleType, receiptType, rule}
+use Rattle.def_wire.specs.Block.{rleOf, rangedOf, kindOf, kindType, rleType, receiptType}
 
 -- what a kind says of the type
 abbrev Back : ℕ → KindOr → Type 0
@@ -41,7 +38,3 @@ kind-type t k e = rw e at (kind-back t)
 pub rle-not-times : (a : Rle) → eqb (rleType a) receiptType ≡ false
 rle-not-times Loss = refl
 rle-not-times Duplicate = refl
-
-pub rule-fine : (t : Bool) (x y : ℕ) → rule t x y ≡ Fine → t ≡ true
-rule-fine true x y e = refl
-rule-fine false x y e = let z : _≡_ {A = ℕ} 0 1 = cc in absurd (omega arith)

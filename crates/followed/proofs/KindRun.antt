@@ -34,7 +34,8 @@ use Rattle.followed.proofs.ValueLaws.{held-eight, four-held, bytes-take
 use Rattle.followed.proofs.UnitsRun.{units}
 use Rattle.followed.proofs.EntriesRun.{entries}
 use Rattle.followed.proofs.RangedRun.{header, blockKnown, spans}
-use Rattle.followed.proofs.KindLaws.{kind-type, rle-not-times, rule-fine}
+use Rattle.followed.proofs.KindLaws.{kind-type, rle-not-times}
+use Rattle.followed.proofs.CheckLaws.{rule-fine}
 
 -- a block's last item, and then what is behind the block
 last-passed : (k : Known) (item n behind : ℕ) (t x : List ℕ) → 0 < n → length t ≡ n
@@ -63,7 +64,8 @@ skipped-run k size behind bs =
     item-open skipped size 0 behind k bs h ∙ sym (ending-open (k .announced) size behind bs h))
     (λ f. let h : size ≤ length bs = ltb-false _ _ f in
     rw (take-append-drop size bs) at
-    (last-passed k skipped size behind (take size bs) (drop size bs) (omega arith) (length-take-le size bs h) refl refl)))))
+    (last-passed k skipped size behind (take size bs) (drop size bs) (omega arith) (length-take-le size bs h) refl
+    refl)))))
 
 -- its first four bytes are known
 module _ (a b c d : ℕ) (y : Bytes (header a b c d)) (announced : ℕ) where

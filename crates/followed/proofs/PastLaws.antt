@@ -8,7 +8,7 @@ use native.Mathlib.Omega.{arith}
 use lib.ListN.{length, take, length-append}
 use lib.Seq.{take-append-add}
 use lib.Dec.{ltb, leb, eqb}
-use borrow.Author.Tests.{eqb-true, ltb-true, ltb-false, lt-ltb, le-ltb, le-leb, lt-leb, ne-eqb}
+use borrow.Author.Tests.{eqb-true, ltb-true, ltb-false, lt-ltb, le-ltb, le-leb, lt-leb}
 use Rattle.laws.proofs.Tests.{either, and-false-r}
 use Rattle.utils.proofs.BytesLaws.{Bytes}
 use Rattle.def_refusals.specs.declared.Refusal.the-variants.{PastEnd}
@@ -19,26 +19,29 @@ use Rattle.def_wire.specs.Packet.{announcedOf}
 use Rattle.def_portions.specs.Events.{Course, need, headFault}
 use Rattle.def_portions.specs.Calls.{whereGood, pastFault}
 use Rattle.states.specs.declared.Portions.{Portions}
-use Rattle.states.specs.Steps.{state, head, sender, known, start, heldOver, low32, goodLength, whereFine, faultOf, after}
-use Rattle.states.specs.Call.{announcedBy, takenIn, pastOf}
+use Rattle.states.specs.Steps.{state, head, known, start, heldOver, low32, goodLength, whereFine}
+use Rattle.states.specs.Steps.{faultOf, after}
+use Rattle.states.specs.Call.{announcedBy, takenIn, pastBy, pastOf}
 use Rattle.followed.specs.Run.{runOf}
-use Rattle.followed.proofs.ItemRun.{item-kept}
+use Rattle.followed.proofs.ItemRun.{not-zero, item-kept}
 use Rattle.followed.proofs.ValueLaws.{bytes-front}
-use Rattle.followed.proofs.CourseRun.{header-back, head-least, past-within, head-refused, head-after}
-use Rattle.followed.proofs.GoingLaws.{asks, at-sender, Counts, going, Past, going-past}
+use Rattle.followed.proofs.CheckLaws.{head-least, past-within}
+use Rattle.followed.proofs.CourseRun.{behindHead, header-back, head-refused, head-after}
+use Rattle.followed.proofs.GoingLaws.{asks, at-sender, Counts}
+use Rattle.followed.proofs.TakenLaws.{going, Past, going-past}
 
 -- 19, by the announced length and the bytes in all; where no length is known, none
-abbrev pastBy : ℕ → ℕ → Checked
-pastBy a n = cond (eqb a 0) Fine (need (leb n a) (PastEnd a n))
+abbrev pastWhere : ℕ → ℕ → Checked
+pastWhere a n = cond (eqb a 0) Fine (pastBy a n)
 
-past-by : (s : List ℕ) → 4 ≤ length s → pastFault s ≡ pastBy (goodLength s) (length s)
+past-by : (s : List ℕ) → 4 ≤ length s → pastFault s ≡ pastWhere (goodLength s) (length s)
 unfolding pastFault
 past-by s h = rw (le-ltb (length s) 4 h) (by (headFault s) refl)
   where
     by : (f : Checked) → headFault s ≡ f
         → whereGood (headFault s) (need (leb (length s) (announcedOf s)) (PastEnd (announcedOf s) (length s)))
-        ≡ pastBy (goodLength s) (length s)
-    by Fine e = rw (e, ne-eqb (announcedOf s) 0 (λ (z : announcedOf s ≡ 0). absurd (omega arith)))
+        ≡ pastWhere (goodLength s) (length s)
+    by Fine e = rw (e, not-zero (announcedOf s) (omega arith))
     by (Unfit r) e = rw e
 
 past-few : (s : List ℕ) → length s < 4 → pastFault s ≡ Fine
@@ -52,7 +55,7 @@ held-append item h [] y = refl
 held-append item h (b ∷ x) y = held-append item _ x y
 
 past-of : (st : Portions) (x : List ℕ) → (announcedBy st x ≡ 0 → eqb (st .item) head ≡ true)
-    → pastOf st x ≡ pastBy (announcedBy st x) (takenIn st + length x)
+    → pastOf st x ≡ pastWhere (announcedBy st x) (takenIn st + length x)
 unfolding pastOf
 past-of st x h =
     either (eqb (announcedBy st x) 0)
@@ -90,7 +93,8 @@ module _ (b x : List ℕ) (h : length b < 4) where
   announced-early y l =
       let m : 4 - length b ≤ length x = omega (arith, length-append b x) in
       rw (le-leb _ _ m)
-      (ap (λ (n : ℕ). goodLength (four (low32 n))) (held-append head 0 b (take (4 - length b) x) ∙ ap (heldOver head 0) first-four)
+      (ap (λ (n : ℕ). goodLength (four (low32 n))) (held-append head 0 b (take (4 - length b) x))
+      ∙ ap (λ (v : List ℕ). goodLength (four (low32 (heldOver head 0 v)))) first-four
       ∙ four-good (b ++ x) l y)
 
   announced-few : length (b ++ x) < 4 → announcedBy begun x ≡ 0
@@ -115,9 +119,6 @@ module _ (a b c d : ℕ) (z : List ℕ) (y : Bytes (a ∷ b ∷ c ∷ d ∷ z)) 
   abbrev s : List ℕ
   s = a ∷ b ∷ c ∷ d ∷ z
 
-  abbrev behind : Portions
-  behind = state sender 4 0 0 (announcedOf s - 8) (known (announcedOf s) 0 0 0 0)
-
   -- where no refusal stays, the header is good
   head-good : faultOf (after start s) ≡ Fine → (f : Checked) → headFault s ≡ f → headFault s ≡ Fine
   unfolding runOf
@@ -133,11 +134,11 @@ module _ (a b c d : ℕ) (z : List ℕ) (y : Bytes (a ∷ b ∷ c ∷ d ∷ z)) 
       let least : 8 ≤ n = head-least s h in
       let most : length s ≤ n = past-within s (omega arith) h p in
       let i = head-after a b c d z y h in
-      let counts : Counts n 4 behind =
+      let counts : Counts n 4 (behindHead s) =
       record { length = refl; all = omega arith; fours = omega arith; shape = at-sender refl refl } in
       let l : 4 + length z ≡ length s = omega arith in
-      rw i (going-past n (length s) (after behind z)
-      (rw l at (going n z 4 behind (asks (omega arith) counts) (omega arith) (rw i at e))))
+      rw i (going-past n (length s) (after (behindHead s) z)
+      (rw l at (going n z 4 (behindHead s) (asks (omega arith) counts) (omega arith) (rw i at e))))
 
   past-late : faultOf (after start s) ≡ Fine → pastFault s ≡ Fine → (x : List ℕ)
       → pastOf (after start s) x ≡ pastFault (s ++ x)
@@ -148,7 +149,7 @@ module _ (a b c d : ℕ) (z : List ℕ) (y : Bytes (a ∷ b ∷ c ∷ d ∷ z)) 
       let least : 8 ≤ announcedOf s = head-least s h in
       let some : announcedBy (after start s) x ≡ announcedOf s = r .length x in
       past-of (after start s) x (λ z. absurd (omega (arith, some, z)))
-      ∙ ap₂ pastBy (r .length x ∙ sym (ap (λ (f : Checked). whereFine f (announcedOf s)) h))
+      ∙ ap₂ pastWhere (r .length x ∙ sym (ap (λ (f : Checked). whereFine f (announcedOf s)) h))
       (ap (λ (n : ℕ). n + length x) (r .taken) ∙ sym (length-append s x))
       ∙ sym (past-by (s ++ x) (omega arith))
 

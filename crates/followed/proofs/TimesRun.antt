@@ -1,14 +1,13 @@
 -- The times of a block of type 3, as far as their bytes have come. Assumes bytes below 256.
 --     times      times in a row list the pairs from position p on
-use Prim.Native.Nat.{ℕ, _+_, _*_, _-_, _%_, _≤_, _<_}
+use Prim.Native.Nat.{ℕ, _+_, _*_, _-_, _≤_, _<_}
 use mathlib.Core.Path.{_≡_, refl, _∙_}
 use mathlib.Core.List.{List, [], _∷_, _++_, map, map-append}
-use native.Mathlib.Nat.{mod-eq-of-lt}
 use native.Mathlib.Numerals.{add-one}
 use native.Mathlib.Omega.{arith}
 use lib.ListN.{length}
 use lib.Dec.{ltb}
-use borrow.Author.Tests.{ltb-true, ltb-false, ne-eqb}
+use borrow.Author.Tests.{ltb-true, ltb-false}
 use Rattle.laws.proofs.Tests.{either}
 use Rattle.utils.proofs.BytesLaws.{Bytes, pairUp-end, length-pairUp}
 use Rattle.def_wire.specs.Bytes.{be32, words16, words32, pairUp}
@@ -21,10 +20,10 @@ use Rattle.def_portions.specs.declared.Event.{Event}
 use Rattle.def_portions.specs.declared.Event.the-variants.{Pair}
 use Rattle.def_portions.specs.Events.{then}
 use Rattle.states.specs.declared.Known.{Known}
-use Rattle.states.specs.Steps.{state, time, heldOver, moved, passed, shownBy, loneOf, opened}
+use Rattle.states.specs.Steps.{state, time, moved, passed, shownBy, loneOf, opened}
 use Rattle.followed.specs.Run.{runOf, opening}
-use Rattle.followed.proofs.ItemRun.{whole, item-open, item-passed}
-use Rattle.followed.proofs.ValueLaws.{by-four, held-four, be32-lt}
+use Rattle.followed.proofs.ItemRun.{not-zero, whole, item-open, item-passed}
+use Rattle.followed.proofs.ValueLaws.{by-four, held-low}
 use Rattle.followed.proofs.UnitsRun.{Units}
 use Rattle.followed.proofs.WordsRun.{Stands, stands-moved}
 
@@ -63,10 +62,10 @@ module _ (g : Range) where
       → shownBy (whole time 4 rest behind k bs) ≡ timeShown p bs
   unfolding shownBy loneOf pairsFrom
   time-shown p k s rest behind bs e y =
-      let v : heldOver time 0 bs % 4294967296 ≡ be32 bs 0 = rw (held-four time refl bs e y) (mod-eq-of-lt (be32-lt bs 0 y)) in
       either (ltb p (insideCount g))
       (λ t. let h : p < insideCount g = ltb-true _ _ t in
-      rw (s .number, s .left, v, is-inside g p h, ne-eqb (insideCount g - p) 0 (λ (z : insideCount g - p ≡ 0). absurd (omega arith))))
+      let z : 0 < insideCount g - p = omega arith in
+      rw (s .number, s .left, held-low time refl bs e y, is-inside g p h, not-zero (insideCount g - p) z))
       (λ f. let h : insideCount g ≤ p = ltb-false _ _ f in
       let z : insideCount g - p ≡ 0 = omega arith in
       rw (s .left, z, is-outside g p h))

@@ -2,7 +2,7 @@
 --     Units      units of n bytes, each begun by an item; `at p` is what is known where the unit at position p begins
 --     units      as many as the block has: what they list as far as their bytes have come, and then what is behind
 use Prim.Native.Nat.{ℕ, zero, suc, _+_, _*_, _-_, _≤_, _<_}
-use mathlib.Core.Path.{_≡_, refl, ap, _∙_}
+use mathlib.Core.Path.{_≡_, refl, sym, ap, _∙_}
 use mathlib.Core.Bool.{false}
 use mathlib.Core.List.{List, [], _++_}
 use native.Mathlib.Omega.{arith}
@@ -51,7 +51,8 @@ module _ {item size n : ℕ} {at : ℕ → Known → Type 0} {lists : ℕ → Li
     part bs h =
         let s = u .some in
         opened-item k (n + rest) behind item size bs (u .inner) (omega arith) ∙ u .begun k rest behind bs h
-        ∙ (rw (take-all (n + rest) bs (omega arith), u .short p bs h, ending-open (k .announced) (n + rest) behind bs (omega arith)))
+        ∙ (rw (take-all (n + rest) bs (omega arith), u .short p bs h)
+        (sym (ending-open (k .announced) (n + rest) behind bs (omega arith))))
 
     more : (bs x : List ℕ) → length bs ≡ n → Bytes bs
         → opening (opened (u .moved k bs) rest behind item size) x
@@ -63,7 +64,8 @@ module _ {item size n : ℕ} {at : ℕ → Known → Type 0} {lists : ℕ → Li
         opened-item k (n + rest) behind item size (bs ++ x) (u .inner) (omega arith)
         ∙ u .whole p k g bs e y rest behind x
         ∙ ap (then (u .shown p bs)) r
-        ∙ then-then (u .shown p bs) (lists (u .past p bs) (take rest x)) (ending (u .moved k bs .announced) rest behind x)
+        ∙ then-then (u .shown p bs) (lists (u .past p bs) (take rest x))
+        (ending (u .moved k bs .announced) rest behind x)
         ∙ (rw (u .kept k bs, u .split p bs (take rest x) e, ending-more (k .announced) n rest behind bs x e))
 
   pub units : (m p : ℕ) (k : Known) → at p k → (behind : ℕ) (bs : List ℕ) → Bytes bs

@@ -1,7 +1,7 @@
 -- The bytes of an item that have come, as a number: big-endian, and nothing is lost. Assumes bytes below 256.
 --     bytes-take, bytes-drop     a part's bytes
 --     held-two, ..               an item of two, four and eight bytes
---     four-held, eight-held      its bytes read back
+--     four-held, held-back, ..   its bytes read back
 use Prim.Native.Nat.{ℕ, _+_, _*_, _/_, _%_, _≤_, _<_}
 use mathlib.Core.Path.{_≡_, refl, sym, ap, ap₂, _∙_}
 use mathlib.Core.Bool.{false}
@@ -16,7 +16,7 @@ use Rattle.laws.proofs.Tests.{either}
 use Rattle.def_wire.specs.Bytes.{be16, be32, be64, four, eight}
 use Rattle.utils.proofs.BytesLaws.{Bytes, be16-lt}
 use Rattle.utils.proofs.StoresLaws.{four-low}
-use Rattle.states.specs.Steps.{skipped, heldOver, low16}
+use Rattle.states.specs.Steps.{skipped, heldOver, low16, low32}
 
 -- ---- a part's bytes
 
@@ -64,7 +64,8 @@ be32-lt s at h = omega (arith, be16-lt s at h, be16-lt s (at + 2) h)
 -- ---- what is held
 
 module _ (item : ℕ) (o : eqb item skipped ≡ false) where
-  held-cons : (h b : ℕ) (bs : List ℕ) → h < 72057594037927936 → heldOver item h (b ∷ bs) ≡ heldOver item (h * 256 + b) bs
+  held-cons : (h b : ℕ) (bs : List ℕ) → h < 72057594037927936
+      → heldOver item h (b ∷ bs) ≡ heldOver item (h * 256 + b) bs
   unfolding heldOver
   held-cons h b bs l = rw (o, mod-eq-of-lt l)
 
@@ -75,8 +76,8 @@ module _ (item : ℕ) (o : eqb item skipped ≡ false) where
       let j : b < 256 = y 1 in
       let k : c < 256 = y 2 in
       let m : d < 256 = y 3 in
-      let e : (((h * 256 + a) * 256 + b) * 256 + c) * 256 + d ≡ h * 4294967296 + ((a * 256 + b) * 65536 + (c * 256 + d)) =
-      omega arith in
+      let w = (a * 256 + b) * 65536 + (c * 256 + d) in
+      let e : (((h * 256 + a) * 256 + b) * 256 + c) * 256 + d ≡ h * 4294967296 + w = omega arith in
       held-cons h a (b ∷ c ∷ d ∷ bs) (omega arith)
       ∙ held-cons (h * 256 + a) b (c ∷ d ∷ bs) (omega arith)
       ∙ held-cons ((h * 256 + a) * 256 + b) c (d ∷ bs) (omega arith)
@@ -91,10 +92,14 @@ module _ (item : ℕ) (o : eqb item skipped ≡ false) where
       let j : b < 256 = y 1 in
       rw (held-cons 0 a (b ∷ []) (omega arith), held-cons (0 * 256 + a) b [] (omega arith)) (omega arith))
 
-  pub held-four : (s : List ℕ) → length s ≡ 4 → Bytes s → heldOver item 0 s ≡ be32 s 0
+  held-four : (s : List ℕ) → length s ≡ 4 → Bytes s → heldOver item 0 s ≡ be32 s 0
   unfolding heldOver
   held-four =
-      by-four (λ s. Bytes s → heldOver item 0 s ≡ be32 s 0) (λ a b c d y. held-more 0 a b c d [] (omega arith) y ∙ zero-add _)
+      by-four (λ s. Bytes s → heldOver item 0 s ≡ be32 s 0)
+      (λ a b c d y. held-more 0 a b c d [] (omega arith) y ∙ zero-add _)
+
+  pub held-low : (s : List ℕ) → length s ≡ 4 → Bytes s → low32 (heldOver item 0 s) ≡ be32 s 0
+  held-low s e y = rw (held-four s e y) (mod-eq-of-lt (be32-lt s 0 y))
 
   pub held-eight : (s : List ℕ) → length s ≡ 8 → Bytes s → heldOver item 0 s ≡ be64 s 0
   unfolding heldOver
@@ -131,3 +136,8 @@ eight-held =
     ap₂ (λ (x y : List ℕ). x ++ y)
     (ap four e ∙ four-held (a ∷ b ∷ c ∷ d ∷ []) refl (bytes-take 4 s y))
     (sym (four-low (be64 s 0)) ∙ ap four f ∙ four-held (i ∷ j ∷ k ∷ l ∷ []) refl (bytes-drop 4 s y)))
+
+-- of an item of four bytes that are held
+pub held-back : (item : ℕ) → eqb item skipped ≡ false → (s : List ℕ) → length s ≡ 4 → Bytes s
+    → four (low32 (heldOver item 0 s)) ≡ s
+held-back item o s e y = ap four (held-low item o s e y) ∙ four-held s e y

@@ -28,11 +28,13 @@ use Rattle.def_wire.specs.Block.{typeOf, blockLength, kindOf, standardRule, fit
 use Rattle.def_questions.specs.Questions.{numbersShown, pairsShown, entriesShown}
 use Rattle.def_portions.specs.declared.Event.{Event}
 use Rattle.def_portions.specs.declared.Event.the-variants.{Header, End}
+use Rattle.def_portions.specs.Events.{course, then, ruleOf, headFault, blockFault, kindEvents, blockEvents}
+use Rattle.def_portions.specs.Events.{blocksFrom, courseOf}
 use Rattle.def_portions.specs.Calls.{pastFault}
-use Rattle.def_portions.specs.Events.{course, then, ruleOf, headFault, blockFault, kindEvents, blockEvents, blocksFrom, courseOf}
 use Rattle.xr.proofs.WalkLaws.{no, done-eq, count-done}
 use Rattle.followed.specs.Whole.{viewOf, kindPart, partOf, partsFrom, wholeOf}
-use Rattle.followed.proofs.KindLaws.{kind-type, rule-fine}
+use Rattle.followed.proofs.KindLaws.{kind-type}
+use Rattle.followed.proofs.CheckLaws.{rule-fine}
 use Rattle.followed.proofs.BlocksRun.{length-at}
 
 -- ---- one block
@@ -121,7 +123,8 @@ module _ (s : List ℕ) where
       rw (o, le-ltb (length s) (at + 4) e, fit-fault at (omega arith) g, r)
       (ap (then (blockEvents (viewOf s k))) ih
       ∙ ap₂ (λ (x y : List Event). course (x ++ y) Fine) (part-events (viewOf s k) g) refl
-      ∙ ap (λ (es : List Event). course es Fine) (sym (append-assoc (partOf (viewOf s k)) (partsFrom s (suc k) (n - suc k)) (End ∷ []))))))
+      ∙ ap (λ (es : List Event). course es Fine)
+      (sym (append-assoc (partOf (viewOf s k)) (partsFrom s (suc k) (n - suc k)) (End ∷ []))))))
       w)
 
 -- ---- the packet

@@ -57,7 +57,8 @@ module _ (g : Range) where
   numbers-split p bs x =
       by-two (λ s. numbersListed p (s ++ x) ≡ wordShown p s ++ numbersListed (p + coversOf (be16 s 0)) x)
       (λ a b. let w = a * 256 + b in
-      rw (numbers-cons g p w (words16 x)) (map-append Number (wordNumbers g p w) (numbersFrom g (p + coversOf w) (words16 x))))
+      rw (numbers-cons g p w (words16 x))
+      (map-append Number (wordNumbers g p w) (numbersFrom g (p + coversOf w) (words16 x))))
       bs
 
   word-whole : (p : ℕ) (k : Known) → Stands g p k → (bs : List ℕ) → length bs ≡ 2 → Bytes bs
