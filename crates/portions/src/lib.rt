@@ -8,7 +8,7 @@ ghost use Rattle.def_questions.specs.Questions.{least3};
 ghost use Rattle.def_portions.specs.Calls.{roomFault};
 ghost use Rattle.states.specs.Steps.{after, shows, shownBy, settled, settledEvents};
 ghost use Rattle.event_lists.specs.Laid.{Laid};
-ghost use Rattle.states.specs.Call.{announcedBy, takenIn, pastOf, callFault, Following};
+ghost use Rattle.states.specs.Call.{announcedBy, takenIn, pastBy, pastOf, callFault, Following};
 use def_portions::Event;
 use def_refusals::Checked;
 use def_refusals::Refusal;
@@ -103,6 +103,7 @@ fn put_settled(
 
 // How many events some bytes show. One pass over them, by arithmetic.
 fn count(st: Portions, x: &[u8]) -> usize
+    requires { ⌜ length (shows st (now x)) ≤ 18446744073709551615 ⌝ }
     ensures { λ r. ⌜ r ≡ length (shows st (now (x .entry))) ⌝ }
 {
     let mut at: usize = 0;
@@ -188,22 +189,33 @@ fn taken_in(st: Portions) -> usize
 }
 
 // 19: more bytes than the header announces.
-fn past_end(st: Portions, x: &[u8]) -> Checked
-    ensures { λ r. ⌜ r ≡ pastOf st (now (x .entry)) ⌝ }
+fn past(announced: usize, given: usize) -> Checked
+    ensures { λ r. ⌜ r ≡ pastBy announced given ⌝ }
 {
-    let announced = announced_by(st, x);
-    if announced == 0 {
-        return Checked::Fine;
-    }
-    let given = taken_in(st) + x.len();
     if given <= announced {
         return Checked::Fine;
     }
     Checked::Unfit(Refusal::PastEnd(announced, given))
 }
 
+// The same of a call. While the header is not known, or not good, nothing is announced.
+fn past_end(st: Portions, x: &[u8]) -> Checked
+    ensures { λ r. ⌜ r ≡ pastOf st (now (x .entry)) ⌝ }
+{
+    let announced = announced_by(st, x);
+    let given = taken_in(st) + x.len();
+    if st.item == states::HEAD {
+        if announced == 0 {
+            return Checked::Fine;
+        }
+        return past(announced, given);
+    }
+    past(announced, given)
+}
+
 // 11: less room than events. They are counted only where the room might be too little.
 fn too_little(st: Portions, x: &[u8], room: usize) -> Checked
+    requires { ⌜ length (shows st (now x)) ≤ 18446744073709551615 ⌝ }
     ensures { λ r. ⌜ r ≡ roomFault (shows st (now (x .entry))) room ⌝ }
 {
     if x.len() <= room / MOST_EVENTS {

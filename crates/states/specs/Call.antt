@@ -5,7 +5,7 @@
 --     Following      the contract: the answer, and what the three lent lists then hold
 use Prim.Native.Nat.{ℕ, _+_, _-_, min}
 use mathlib.Core.Path.{_≡_}
-use mathlib.Core.Bool.{cond}
+use mathlib.Core.Bool.{cond, _&&_}
 use mathlib.Core.List.{List, []}
 use lib.ListN.{length, take}
 use lib.Dec.{leb, eqb}
@@ -35,11 +35,15 @@ announcedBy st x =
 unfoldable pub takenIn : Portions → ℕ
 takenIn st = cond (eqb (st .item) head) (4 - st .missing) (st .known .announced - st .behind - st .rest - st .missing)
 
--- 19
+-- 19, of the announced length and the bytes given in all
+abbrev pub pastBy : ℕ → ℕ → Checked
+pastBy announced given = need (leb given announced) (PastEnd announced given)
+
+-- not while the header is not known, or not good. Behind it the length is known: so no state takes more bytes than 32
+-- bits can say
 unfoldable pub pastOf : Portions → List ℕ → Checked
 pastOf st x =
-    cond (eqb (announcedBy st x) 0) Fine
-    (need (leb (takenIn st + length x) (announcedBy st x)) (PastEnd (announcedBy st x) (takenIn st + length x)))
+    cond (eqb (st .item) head && eqb (announcedBy st x) 0) Fine (pastBy (announcedBy st x) (takenIn st + length x))
 
 unfoldable pub callFault : Portions → List ℕ → ℕ → Checked
 callFault st x room = thenCheck (faultOf st) (thenCheck (pastOf st x) (roomFault (shows st x) room))

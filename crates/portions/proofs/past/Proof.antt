@@ -1,0 +1,16 @@
+-- `portions::past` meets its contract.
+use borrow.Author.Tests.{le-leb, lt-leb}
+use Rattle.portions.proofs.past.Statement.{statement}
+use Rattle.portions.proofs.past.Tie as tie
+use Rattle.portions.proofs.past.Reads as reads
+use Rattle.portions.proofs.past.Lts as lts
+
+returns : tie.Need-returns
+returns c = rw (le-leb _ _ (c .if1 .taken))
+
+returns-2 : tie.Need-returns-2
+returns-2 c = rw (lt-leb _ _ (c .if1 .left))
+
+pub past-spec : {M : Type 1} → statement M
+past-spec =
+    tie.close (tie.spec returns returns-2)
