@@ -5,7 +5,6 @@ use Prim.Native.Nat.{ℕ}
 use mathlib.Core.Path.{_≡_}
 use mathlib.Core.List.{List, _++_}
 use lib.ListN.{length}
-use Rattle.def_questions.specs.Questions.{least3}
 use Rattle.def_text.specs.Buffer.{Added}
 use Rattle.def_dump.specs.EventLines.{eventLines}
 use Rattle.def_probe.specs.Requests.{endingOf}
@@ -17,9 +16,8 @@ unfoldable pub toldOf : Portions → List ℕ → ℕ → List ℕ
 toldOf st x room =
     eventLines (givenOf st x room) ++ endingOf (followedOf st x room .refusal) (length x) (length (givenOf st x room))
 
--- a call with the bytes x, where three lists t, u, v were lent, and `at` bytes waited in the buffer l
-pub record Telling (st : Portions) (x t u v l : List ℕ) (at : ℕ) (r : Told) (t′ u′ v′ l′ : List ℕ) : Type 0 where
-  pub state : r .state ≡ followedOf st x (least3 t u v) .state
-  pub taken : r .taken ≡ followedOf st x (least3 t u v) .taken
-  pub text : Added l at (toldOf st x (least3 t u v)) l′ (r .at)
-  pub room : least3 t′ u′ v′ ≡ least3 t u v
+-- a call with the bytes x and so much room for events, where `at` bytes waited in the buffer l
+pub record Telling (st : Portions) (x : List ℕ) (room : ℕ) (l : List ℕ) (at : ℕ) (r : Told) (l′ : List ℕ) : Type 0 where
+  pub state : r .state ≡ followedOf st x room .state
+  pub taken : r .taken ≡ followedOf st x room .taken
+  pub text : Added l at (toldOf st x room) l′ (r .at)

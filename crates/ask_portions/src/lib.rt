@@ -40,8 +40,9 @@ fn one(
     buf: &mut [u8],
     at: usize,
 ) -> Told
-    ensures { λ r. ⌜ Telling st (now (x .entry)) (now (tags .entry)) (now (numbers .entry)) (now (values .entry))
-        (now (buf .entry)) at r (now (tags .exit)) (now (numbers .exit)) (now (values .exit)) (now (buf .exit)) ⌝ }
+    ensures { λ r. ⌜ Telling st (now (x .entry))
+        (least3 (now (tags .entry)) (now (numbers .entry)) (now (values .entry))) (now (buf .entry)) at r
+        (now (buf .exit)) ⌝ }
 {
     let r = portions::follow(st, x, tags, numbers, values);
     let n = event_lines::event_lines(buf, at, tags, numbers, values, r.events);
