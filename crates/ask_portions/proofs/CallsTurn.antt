@@ -5,7 +5,7 @@
 --     request-text      what is to be added for a request
 use Prim.Native.Nat.{ℕ, suc, _+_, _*_, _-_, _≤_, _<_, min}
 use mathlib.Core.Path.{_≡_, refl, sym, ap, _∙_}
-use mathlib.Core.List.{List, [], _∷_, _++_, append-nil}
+use mathlib.Core.List.{List, [], _∷_, append-nil}
 use native.Mathlib.Omega.{arith}
 use lib.ListN.{length, take, drop, length-take, length-drop}
 use lib.Seq.{take-all}
@@ -19,7 +19,7 @@ use Rattle.states.specs.Steps.{start}
 use Rattle.print.proofs.AddedLaws.{Adding, start as none-yet, skip, next, done}
 use Rattle.ask_portions.specs.declared.Told.{Told}
 use Rattle.ask_portions.specs.Told.{Telling}
-use Rattle.ask_portions.proofs.ReachedLaws.{Reached, reached-none, few, next-text, reached-next, no-text, last-text}
+use Rattle.ask_portions.proofs.ReachedLaws.{Reached, reached-none, next-text, reached-next, no-text, last-text}
 
 -- the sizes from the one at index i on
 abbrev sizesFrom : List ℕ → ℕ → ℕ → List ℕ

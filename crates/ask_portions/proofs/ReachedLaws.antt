@@ -4,7 +4,7 @@
 --     next-text               the text from a call on: its own, and that of the calls behind it
 --     last-text, no-text      the text where no size is left: of the call for the other bytes, or none
 use Prim.Native.Nat.{ℕ, _+_, _-_, _≤_}
-use mathlib.Core.Path.{_≡_, refl, sym, ap, ap₂, _∙_}
+use mathlib.Core.Path.{_≡_, refl, sym, ap, _∙_}
 use mathlib.Core.List.{List, [], _∷_, _++_, append-nil}
 use native.Mathlib.Omega.{arith}
 use lib.ListN.{length, take, drop, length-append, length-take, length-drop}
@@ -17,7 +17,7 @@ use Rattle.def_refusals.specs.Answers.{thenCheck}
 use Rattle.def_portions.specs.declared.Event.{Event}
 use Rattle.def_portions.specs.Events.{courseOf}
 use Rattle.def_portions.specs.Calls.{Call, orKept, pastFault, added, roomFault, callOf}
-use Rattle.def_probe.specs.Requests.{callTold, leftBy, callsText}
+use Rattle.def_probe.specs.Requests.{callTold, callsText}
 use Rattle.states.specs.declared.Portions.{Portions}
 use Rattle.states.specs.declared.Followed.{Followed}
 use Rattle.states.specs.Steps.{start, after}
@@ -91,7 +91,7 @@ module _ {x : List ℕ} (bytes : Bytes x) (room : ℕ) {st : Portions} {from : �
     counted : length (call .taken) - length (take from x) ≡ n
     counted = sym (e ∙ ap (λ (a : Followed). a .taken) answer)
 
-    pub few : n ≤ length portion
+    few : n ≤ length portion
     few = omega (arith, counted, takes (take from x) portion room .1)
 
     taken-then : call .taken ≡ take (from + n) x

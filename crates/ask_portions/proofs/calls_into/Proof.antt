@@ -1,14 +1,12 @@
 -- `ask_portions::calls_into` meets its contract: what was added so far and what is still to be added make up the whole.
 -- Assumes nothing.
-use Prim.Native.Nat.{ℕ, _-_}
+use Prim.Native.Nat.{_-_}
 use native.Mathlib.Omega.{arith}
 use borrow.Author.Needs.{needs}
 use Rattle.utils.proofs.BytesLaws.{Bytes}
 use Rattle.ask_portions.proofs.CallsTurn.{Underway, begun, inside, onward, ended, last}
 use Rattle.ask_portions.proofs.calls_into.Statement.{statement}
 use Rattle.ask_portions.proofs.calls_into.Tie as tie
-use Rattle.ask_portions.proofs.calls_into.Reads as reads
-use Rattle.ask_portions.proofs.calls_into.Lts as lts
 
 abbrev Inv-loop : tie.InvT-loop
 Inv-loop p n x tags₀ numbers₀ values₀ buf₀ at st₀ from₀ to₀ i₀ tags numbers values buf st from to i =
