@@ -2,11 +2,12 @@
 // byte that no call has taken on, and one more for what is then left. For each call its events' lines are added to the
 // buffer, then what it took or its refusal. `calls` promises that it has added exactly def_probe's text.
 ghost use Prim.Native.Nat.{_<_};
-ghost use mathlib.Core.Path.{_≡_};
+ghost use mathlib.Core.List.{[]};
+ghost use Rattle.def_questions.specs.Questions.{least3};
 ghost use Rattle.def_text.specs.Buffer.{Added};
 ghost use Rattle.def_dump.specs.EventLines.{givenLine};
-ghost use Rattle.def_probe.specs.Requests.{portionsText};
-ghost use Rattle.ask_portions.specs.Told.{AllBytes};
+ghost use Rattle.def_probe.specs.Requests.{sizesAt, callsText, portionsText};
+ghost use Rattle.ask_portions.specs.Told.{Telling};
 use def_refusals::Checked;
 use states::Portions;
 
@@ -18,24 +19,6 @@ struct Told {
     state: Portions,
     taken: usize,
     at: usize,
-}
-
-// A byte is under 256.
-fn is_byte(b: u8) -> bool
-    ensures { λ r. ⌜ b < 256 ⌝ }
-{
-    true
-}
-
-// So each number in a slice of bytes is: nothing is computed, and the compiler leaves the loop out.
-fn are_bytes(s: &[u8])
-    ensures { λ _. ⌜ AllBytes (now (s .entry)) ⌝ }
-{
-    let mut i: usize = 0;
-    while i < s.len() {
-        is_byte(s[i]);
-        i += 1;
-    }
 }
 
 // `taken B events K`.
@@ -56,7 +39,11 @@ fn one(
     values: &mut [u64],
     buf: &mut [u8],
     at: usize,
-) -> Told {
+) -> Told
+    ensures { λ r. ⌜ Telling st (now (x .entry))
+        (least3 (now (tags .entry)) (now (numbers .entry)) (now (values .entry))) (now (buf .entry)) at r
+        (now (buf .exit)) ⌝ }
+{
     let r = portions::follow(st, x, tags, numbers, values);
     let n = event_lines::event_lines(buf, at, tags, numbers, values, r.events);
     let s = r.state;
@@ -85,7 +72,12 @@ fn calls_into(
     values: &mut [u64],
     buf: &mut [u8],
     at: usize,
-) -> usize {
+) -> usize
+    requires { ⌜ n < 65536 ⌝ }
+    ensures { λ r. ⌜ Added (now (buf .entry)) at
+        (callsText (least3 (now (tags .entry)) (now (numbers .entry)) (now (values .entry))) [] (now (x .entry))
+        (sizesAt (now (p .entry)) 6 n)) (now (buf .exit)) r ⌝ }
+{
     let mut st = steps::start();
     let mut from: usize = 0;
     let mut to = at;
@@ -123,7 +115,6 @@ pub fn calls(p: &[u8], buf: &mut [u8], at: usize) -> usize
     let mut values = [0u64; MOST];
     let room = utils::lesser(little_endian::u32_from_le_bytes(p, 0) as usize, MOST);
     let n = little_endian::u16_from_le_bytes(p, 4) as usize;
-    are_bytes(p);
     calls_into(
         p,
         n,

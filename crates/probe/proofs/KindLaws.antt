@@ -19,7 +19,7 @@ use Rattle.def_jobs.specs.Jobs.{le32}
 use Rattle.def_probe.specs.Requests.{told, cut, readingFirst, chunkAsked, fieldsTold, timeTold, shownText, madeText}
 use Rattle.def_probe.specs.Requests.{numbersText, pairsText, entriesText, typedReply, dumpReply, listReply, shownReply}
 use Rattle.def_probe.specs.Requests.{stretchReply, writtenReply, madeReply, parsedReply, wordsReply, marksReply}
-use Rattle.def_probe.specs.Requests.{viewReply, numbersReply, answerTo}
+use Rattle.def_probe.specs.Requests.{viewReply, portionsReply, numbersReply, answerTo}
 use Rattle.probe.specs.Replied.{beginsWell}
 use Rattle.probe.proofs.ReplyLaws.{begun}
 
@@ -145,16 +145,20 @@ module _ (kind : ℕ) (p : List ℕ) where
   unfolding answerTo
   kind-11 e = rw e
 
+  pub kind-12 : kind ≡ 12 → portionsReply p ≡ answerTo kind p
+  unfolding answerTo
+  kind-12 e = rw e
+
   pub kind-14 : kind ≡ 14 → numbersReply p ≡ answerTo kind p
   unfolding answerTo
   kind-14 e = rw e
 
   pub kind-other : (kind ≡ 1 → ⊥) → (kind ≡ 2 → ⊥) → (kind ≡ 3 → ⊥) → (kind ≡ 4 → ⊥)
       → (kind ≡ 5 → ⊥) → (kind ≡ 6 → ⊥) → (kind ≡ 7 → ⊥) → (kind ≡ 8 → ⊥) → (kind ≡ 9 → ⊥)
-      → (kind ≡ 10 → ⊥) → (kind ≡ 11 → ⊥) → (kind ≡ 14 → ⊥)
+      → (kind ≡ 10 → ⊥) → (kind ≡ 11 → ⊥) → (kind ≡ 12 → ⊥) → (kind ≡ 14 → ⊥)
       → cut ≡ answerTo kind p
   unfolding answerTo
-  kind-other a b d e f g h i j k l m =
+  kind-other a b d e f g h i j k l m n =
       rw (
         ne-eqb _ _ a,
         ne-eqb _ _ b,
@@ -168,4 +172,5 @@ module _ (kind : ℕ) (p : List ℕ) where
         ne-eqb _ _ k,
         ne-eqb _ _ l,
         ne-eqb _ _ m,
+        ne-eqb _ _ n,
       )
