@@ -27,7 +27,7 @@ use Rattle.states.specs.Steps.{head, sender, block, fields, word, time, whose, 
 use Rattle.states.specs.Steps.{hold, known, typeIn, thinningIn, low16, low32, high32, fieldsIn}
 use Rattle.states.specs.Steps.{itemFault, nextBlock, opened, openedBy, inBlock, ranged, moved, inPacket}
 use Rattle.states.specs.Steps.{passed, passedOn, startIn, loneOf, listOf, shownBy, endIn, shownOn}
-use Rattle.states.specs.Steps.{settled, settledEvents, next, eventsAt, shows}
+use Rattle.states.specs.Steps.{start, settled, settledEvents, next, eventsAt, after, shows}
 use Rattle.steps.proofs.BytesLaws.{fields-held}
 use Rattle.event_lists.specs.Parts.{InRange, inHeader, inStart, inRanged, inNumber, inPair, inEntry, inTime, inEnd}
 use Rattle.event_lists.specs.Parts.{AllInRange, noneLeft, inBoth}
@@ -179,3 +179,12 @@ pub shows-in-range : (st : Portions) (x : List ℕ) → Bounded st → AllInRang
 unfolding shows
 shows-in-range st [] b = noneLeft
 shows-in-range st (c ∷ x) b = all-append (events-in st c b) (shows-in-range (next st c) x (next-in st c b))
+
+pub bounded-start : Bounded start
+unfolding start
+bounded-start = record { announced = omega arith; whose = omega arith; next = omega arith }
+
+pub bounded-after : (st : Portions) (x : List ℕ) → Bounded st → Bounded (after st x)
+unfolding after
+bounded-after st [] b = b
+bounded-after st (c ∷ x) b = bounded-after (next st c) x (next-in st c b)

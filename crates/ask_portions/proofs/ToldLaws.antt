@@ -62,7 +62,7 @@ module _ {st : Portions} {x t u v : List ℕ} {r : Followed} {t1 u1 v1 : List �
   counted = ap (λ (a : Followed). a .events) (f .answer) ∙ given-count st x (least3 t u v)
 
   -- the lists hold its events
-  listed : eventsIn t1 u1 v1 (r .events) ≡ given
+  pub listed : eventsIn t1 u1 v1 (r .events) ≡ given
   listed =
       let m = given-most st x (least3 t u v) in
       let p : r .events ≡ 0 + length given = omega (arith, counted) in
