@@ -1,5 +1,5 @@
--- ItemLaws (the events of a complete item, as they are stored), StoreTurn (some bytes, item by item), MostLaws (how many
--- events bytes have at most), PastLaws (how many a call has that 19 does not refuse), CallLaws (one call).
+-- ItemLaws (the events of a complete item, as they are stored), StoreTurn (some bytes, item by item), MostLaws (how
+-- many events bytes have at most), PastLaws (how many a call has that 19 does not refuse), CallLaws (one call).
 pub mod ItemLaws
 pub mod StoreTurn
 pub mod MostLaws

@@ -7,12 +7,6 @@ use Rattle.portions.proofs.CallLaws.{room-fine, following, unmoved}
 use borrow.Author.Needs.{needs}
 use Rattle.portions.proofs.follow.Statement.{statement}
 use Rattle.portions.proofs.follow.Tie as tie
-use Rattle.portions.proofs.follow.Reads as reads
-use Rattle.portions.proofs.follow.Lts as lts
-use Rattle.portions.proofs.call_fault.Reads as call-fault-reads
-use Rattle.portions.proofs.room_in.Reads as room-in-reads
-use Rattle.portions.proofs.store.Reads as store-reads
-use Rattle.steps.proofs.fault.Reads as fault-reads
 
 -- what refuses it
 abbrev start : tie.After-call-fault → tie.Start
@@ -29,19 +23,19 @@ taken : (t : tie.After-enum-told) → let a = start (t .before .before) .args in
 taken t = sym (asked (t .before .before)) ∙ t .enum-told .given .1
 
 store-requires : tie.Need-store-requires
-store-requires c κs = 
+store-requires c κs =
     let t = c .before .before .before in
     let a = start (t .before .before) .args in
     room-fine (a .st) (a .x .now) _ (taken t)
 
 returns : tie.Need-returns
-returns c = 
+returns c =
     let p = c .before .before .before .before .before .before .before .before in
     let t = p .before .before .before .before in
     following (taken t) (p .store .ensures .0) (c .fault .ensures) (p .store .ensures .1)
 
 returns-2 : tie.Need-returns-2
-returns-2 c = 
+returns-2 c =
     let y = c .before in
     unmoved (sym (asked (y .before .before)) ∙ y .y .given .1)
 
