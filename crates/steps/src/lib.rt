@@ -484,10 +484,10 @@ pub fn settle(st: Portions) -> Settled
 fn more(item: u8, held: u64, b: u8) -> u64
     ensures { λ r. ⌜ r ≡ heldWith item held b ⌝ }
 {
-    if item == states::SKIPPED {
-        return held;
+    if item != states::SKIPPED {
+        return held % 72057594037927936 * 256 + b as u64;
     }
-    held % 72057594037927936 * 256 + b as u64
+    held
 }
 
 // Four bytes more at once.
