@@ -109,11 +109,11 @@ int main(void) {
         return 1;
     printf("the lent list still holds %u %u\n", (unsigned)kept[0], (unsigned)kept[1]);
 
-    /* The same packet in portions of three bytes; and one whose last block is cut short by its own length. */
+    /* The same packet in portions of two bytes; and one whose last block is cut short by its own length. */
     uint8_t bad[sizeof sample];
     memcpy(bad, sample, sizeof bad);
     bad[11] = 1;
-    if (follow(sample, sizeof sample, 3) || !follow(bad, sizeof bad, 24))
+    if (follow(sample, sizeof sample, 2) || !follow(bad, sizeof bad, 24))
         return 1;
     return 0;
 }

@@ -71,7 +71,7 @@ pub fn put(tags: &mut [u64], numbers: &mut [u16], values: &mut [u64], n: usize, 
 }
 
 // Stores the tag of a number so many times.
-fn put_tags(tags: &mut [u64], from: usize, to: usize)
+pub fn put_tags(tags: &mut [u64], from: usize, to: usize)
     requires { ⌜ (from ≤ to) × (to ≤ length (now tags)) ⌝ }
     ensures { λ r. ⌜ now (tags .exit) ≡ sets (now (tags .entry)) from (numberTags (to - from)) ⌝ }
 {

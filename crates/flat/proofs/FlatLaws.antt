@@ -15,10 +15,14 @@ use Rattle.def_questions.specs.Questions.{ListedPairs, ListedEntries}
 use Rattle.def_cursor.specs.declared.Cursor.{Cursor}
 use Rattle.def_cursor.specs.declared.Advanced.{Advanced}
 use Rattle.def_cursor.specs.Cursor.{StretchedBy}
+use Rattle.states.specs.declared.Portions.{Portions}
+use Rattle.states.specs.declared.Followed.{Followed}
+use Rattle.states.specs.Call.{Following}
 use Rattle.flat.specs.declared.Flat.{Flat}
+use Rattle.flat.specs.declared.FlatFollowed.{FlatFollowed}
 use Rattle.flat.specs.declared.FlatStretch.{FlatStretch}
-use Rattle.flat.specs.Flat.{readingOf, chunkAsked, flatRefusal, flatOf, flatStretch}
-use Rattle.flat.specs.Lists.{FlatListed, FlatPairs, FlatEntries, FlatStretched}
+use Rattle.flat.specs.Flat.{readingOf, chunkAsked, flatRefusal, flatOf, flatStretch, flatFollowed}
+use Rattle.flat.specs.Lists.{FlatListed, FlatPairs, FlatEntries, FlatStretched, FlatFollowing}
 
 pub reading-standard : (r : ℕ) → r ≡ 0 → Standard ≡ readingOf r
 unfolding readingOf
@@ -77,3 +81,13 @@ pub flat-stretched : {s : List ℕ} {k t : ℕ} {c : Cursor} {budget : ℕ} {out
     {f : FlatStretch}
     → StretchedBy s k t c budget out a out′ → f ≡ flatStretch a → FlatStretched s k t c budget out f out′
 flat-stretched l h = record { answer = h ∙ ap flatStretch (l .answer); filled = l .filled }
+
+pub flat-following : {st : Portions} {x t u v t′ u′ v′ : List ℕ} {r : Followed} {a : FlatFollowed}
+    → Following st x t u v r t′ u′ v′ → a ≡ flatFollowed r → FlatFollowing st x t u v a t′ u′ v′
+flat-following f e =
+    record {
+      answer = e ∙ ap flatFollowed (f .answer);
+      tags = f .tags;
+      numbers = f .numbers;
+      values = f .values;
+    }

@@ -17,6 +17,8 @@ use Rattle.xport.proofs.xr_words_from_marks.Reads as xr-words-from-mark
 use Rattle.xport.proofs.xr_write_plain.Reads as xr-write-plain
 use Rattle.xport.proofs.xr_write_careful.Reads as xr-write-careful
 use Rattle.xport.proofs.xr_cursor.Reads as xr-cursor
+use Rattle.xport.proofs.xr_portions_start.Reads as xr-portions-start
+use Rattle.xport.proofs.xr_follow.Reads as xr-follow
 use Rattle.xport.proofs.xr_parse.Reads as xr-parse
 use Rattle.xport.proofs.xr_block_at.Reads as xr-block-at
 use Rattle.xport.proofs.xr_fields_view.Reads as xr-fields-view
@@ -107,6 +109,21 @@ xr-cursor-unique κs a r₁ r₂ s₁ s₂ p q = p .answer ∙ sym (q .answer)
 
 pub xr-cursor-unique-out : (κs : Lfts 2) → Fixes (xr-cursor.Post κs) (λ r s. s .1 .1 .1 .1 .1 .1 .1 .0 .now)
 xr-cursor-unique-out κs a r₁ r₂ s₁ s₂ p q = p .filled ∙ sym (q .filled)
+
+pub xr-portions-start-unique : (κs : Lfts 0) → Fixes (xr-portions-start.Post κs) (λ r s. r)
+xr-portions-start-unique κs a r₁ r₂ s₁ s₂ p q = p ∙ sym q
+
+pub xr-follow-unique : (κs : Lfts 4) → Fixes (xr-follow.Post κs) (λ r s. r)
+xr-follow-unique κs a r₁ r₂ s₁ s₂ p q = p .answer ∙ sym (q .answer)
+
+pub xr-follow-unique-tags : (κs : Lfts 4) → Fixes (xr-follow.Post κs) (λ r s. s .1 .1 .0 .now)
+xr-follow-unique-tags κs a r₁ r₂ s₁ s₂ p q = p .tags ∙ sym (q .tags)
+
+pub xr-follow-unique-numbers : (κs : Lfts 4) → Fixes (xr-follow.Post κs) (λ r s. s .1 .1 .1 .0 .now)
+xr-follow-unique-numbers κs a r₁ r₂ s₁ s₂ p q = p .numbers ∙ sym (q .numbers)
+
+pub xr-follow-unique-values : (κs : Lfts 4) → Fixes (xr-follow.Post κs) (λ r s. s .1 .1 .1 .1 .0 .now)
+xr-follow-unique-values κs a r₁ r₂ s₁ s₂ p q = p .values ∙ sym (q .values)
 
 pub xr-parse-unique : (κs : Lfts 1) → Fixes (xr-parse.Post κs) (λ r s. r)
 xr-parse-unique κs a r₁ r₂ s₁ s₂ p q = p ∙ sym q

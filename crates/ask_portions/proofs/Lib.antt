@@ -1,0 +1,2 @@
+-- InRangeLaws (the events of a run are in range).
+pub mod InRangeLaws

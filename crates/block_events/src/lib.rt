@@ -1,0 +1,177 @@
+// The events of a block whose bytes are all there, counted and stored at once, each list by a loop with nothing else in
+// it (RULES, "Packets in portions").
+ghost use mathlib.Core.Path.{_≡_};
+ghost use mathlib.Core.List.{map};
+ghost use Prim.Native.Nat.{_+_, _≤_};
+ghost use lib.ListN.{length};
+ghost use Rattle.def_questions.specs.Questions.{least3};
+ghost use Rattle.def_portions.specs.Events.{blockEvents, from, rangedOf, listed};
+ghost use Rattle.event_lists.specs.Laid.{Laid};
+use def_portions::Event;
+use def_refusals::Answer;
+use def_standard::Range;
+use def_wire::Kind;
+use def_wire::KindOr;
+use def_wire::LongTime;
+use def_wire::Ranged;
+
+// A block's type, and its length by its header.
+fn type_of(v: &[u8]) -> u8 {
+    xr::block_type(xr::header_data(v))
+}
+
+fn length_of(v: &[u8]) -> u32 {
+    xr::block_length(xr::header_data(v)) as u32
+}
+
+// How many events a block of types 1 to 3 has.
+fn count_range(g: Ranged, v: &[u8]) -> usize {
+    if v.len() < 12 {
+        return 0;
+    }
+    let r = range::range_of(block::fields_at(v));
+    match g {
+        Ranged::Chunks(_) => 1 + rle_standard::count_standard(utils::part(v, 12, v.len()), r),
+        Ranged::Times => 1 + utils::lesser((v.len() - 12) / 4, range::inside_count(r)),
+    }
+}
+
+// How many events a block has, of its bytes so far.
+pub fn count_block(v: &[u8]) -> usize
+    ensures { λ r. ⌜ r ≡ length (blockEvents (now (v .entry))) ⌝ }
+{
+    match records::kind_of(type_of(v)) {
+        KindOr::AKind(k) => match k {
+            Kind::Spans(g) => count_range(g, v),
+            Kind::Clock => { if v.len() < 12 { 1 } else { 2 } }
+            Kind::Echoes => 1 + dlrr::count(v),
+        },
+        KindOr::NoKind => 1,
+    }
+}
+
+// Stores the numbers of words, and answers the index past them.
+fn put_numbers(words: &[u8], r: Range, tags: &mut [u64], numbers: &mut [u16], n: usize) -> usize {
+    match rle_standard::fill_standard(words, r, &mut numbers[n..]) {
+        Answer::Done(m) => {
+            event_lists::put_tags(tags, n, n + m);
+            n + m
+        }
+        Answer::Refused(_) => n,
+    }
+}
+
+// Stores so many pairs: numbers one step apart, and times as they stand from byte 12 on.
+fn put_pairs(
+    v: &[u8],
+    first: u16,
+    step: u16,
+    count: usize,
+    tags: &mut [u64],
+    numbers: &mut [u16],
+    values: &mut [u64],
+    n: usize,
+) -> usize {
+    let mut left = count;
+    let mut at: usize = 12;
+    let mut i = n;
+    let mut x = first;
+    while left != 0 {
+        tags[i] = 5;
+        numbers[i] = x;
+        values[i] = utils::load32(v, at) as u64;
+        x = std::num::wrapping_add_u16(x, step);
+        at += 4;
+        i += 1;
+        left -= 1;
+    }
+    i
+}
+
+// Stores so many entries, as they stand from byte 4 on.
+fn put_entries(v: &[u8], count: usize, tags: &mut [u64], values: &mut [u64], n: usize) -> usize {
+    let mut left = count;
+    let mut at: usize = 4;
+    let mut i = n;
+    while left != 0 {
+        tags[i] = 6 + 256 * utils::load32(v, at) as u64;
+        values[i] = utils::join32(utils::load32(v, at + 4), utils::load32(v, at + 8));
+        at += 12;
+        i += 1;
+        left -= 1;
+    }
+    i
+}
+
+// Stores the events of a block of types 1 to 3.
+fn put_range(
+    g: Ranged,
+    v: &[u8],
+    tags: &mut [u64],
+    numbers: &mut [u16],
+    values: &mut [u64],
+    n: usize,
+) -> usize {
+    if v.len() < 12 {
+        return n;
+    }
+    let f = block::fields_at(v);
+    let r = range::range_of(f);
+    let m = event_lists::put(
+        tags,
+        numbers,
+        values,
+        n,
+        Event::Ranged(type_of(v), length_of(v), f),
+    );
+    match g {
+        Ranged::Chunks(_) => put_numbers(utils::part(v, 12, v.len()), r, tags, numbers, m),
+        Ranged::Times => {
+            let count = utils::lesser((v.len() - 12) / 4, range::inside_count(r));
+            let step = range::doubled(1, f.thinning);
+            put_pairs(
+                v,
+                range::number_at(r, 0),
+                step,
+                count,
+                tags,
+                numbers,
+                values,
+                m,
+            )
+        }
+    }
+}
+
+// Stores the events of a block, of its bytes so far, and answers the index past them.
+pub fn put_block(
+    v: &[u8],
+    tags: &mut [u64],
+    numbers: &mut [u16],
+    values: &mut [u64],
+    n: usize,
+) -> usize
+    requires { ⌜ n + length (blockEvents (now v)) ≤ least3 (now tags) (now numbers) (now values) ⌝ }
+    ensures { λ r. ⌜ Laid (blockEvents (now (v .entry))) n (now (tags .entry)) (now (numbers .entry))
+        (now (values .entry)) (now (tags .exit)) (now (numbers .exit)) (now (values .exit)) r ⌝ }
+{
+    let t = type_of(v);
+    match records::kind_of(t) {
+        KindOr::AKind(k) => match k {
+            Kind::Spans(g) => put_range(g, v, tags, numbers, values, n),
+            Kind::Clock => {
+                let m = event_lists::put(tags, numbers, values, n, Event::Start(t, length_of(v)));
+                if v.len() < 12 {
+                    return m;
+                }
+                let time = LongTime(utils::u64_from_be_bytes(v, 4));
+                event_lists::put(tags, numbers, values, m, Event::Time(time))
+            }
+            Kind::Echoes => {
+                let m = event_lists::put(tags, numbers, values, n, Event::Start(t, length_of(v)));
+                put_entries(v, dlrr::count(v), tags, values, m)
+            }
+        },
+        KindOr::NoKind => event_lists::put(tags, numbers, values, n, Event::Start(t, length_of(v))),
+    }
+}
