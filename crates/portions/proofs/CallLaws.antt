@@ -1,26 +1,22 @@
 -- One call, by what refuses it: the one place that unfolds `callFault`, `followedOf` and `givenOf`. Assumes nothing.
 use Prim.Native.Nat.{ℕ, _≤_, _<_}
-use mathlib.Core.Path.{_≡_, refl, sym, _∙_}
-use mathlib.Core.Bool.{Bool, true, false}
+use mathlib.Core.Path.{_≡_}
 use mathlib.Core.List.{List}
 use native.Mathlib.Nat.{zero-add}
 use native.Mathlib.Omega.{arith}
 use lib.ListN.{length}
 use lib.Dec.{leb}
-use borrow.Author.Tests.{leb-true, leb-false, le-leb, lt-leb}
-use Rattle.laws.proofs.Tests.{either}
+use borrow.Author.Tests.{leb-true, le-leb, lt-leb}
 use Rattle.def_refusals.specs.declared.Refusal.{Refusal}
 use Rattle.def_refusals.specs.declared.Refusal.the-variants.{NoRoom}
 use Rattle.def_refusals.specs.declared.Checked.{Checked}
 use Rattle.def_refusals.specs.declared.Checked.the-variants.{Fine, Unfit}
 use Rattle.def_refusals.specs.Answers.{thenCheck}
 use Rattle.def_questions.specs.Questions.{least3}
-use Rattle.def_portions.specs.Events.{need}
 use Rattle.def_portions.specs.Calls.{roomFault}
 use Rattle.def_portions.specs.Lists.{laid}
 use Rattle.event_lists.specs.Laid.{Laid}
 use Rattle.states.specs.declared.Portions.{Portions}
-use Rattle.states.specs.declared.Followed.{Followed}
 use Rattle.states.specs.Steps.{faultOf, after, shows}
 use Rattle.states.specs.Call.{pastOf, callFault, followedOf, givenOf, Following}
 use Rattle.portions.proofs.PastLaws.{need-fine}

@@ -1,14 +1,12 @@
 -- No byte has more events than a run of 16,383 numbers and the packet's end. Assumes nothing.
-use Prim.Native.Nat.{ℕ, suc, _*_, _≤_}
-use mathlib.Core.Path.{_≡_, ap}
+use Prim.Native.Nat.{ℕ, _*_, _≤_}
 use mathlib.Core.List.{List, [], _∷_}
 use native.Mathlib.Omega.{arith}
 use lib.ListN.{length, length-append}
 use lib.Dec.{eqb}
-use borrow.Author.Tests.{eqb-true}
 use Rattle.laws.proofs.Tests.{either}
 use Rattle.states.specs.declared.Portions.{Portions}
-use Rattle.states.specs.Steps.{hold, settledEvents, next, eventsAt, shows}
+use Rattle.states.specs.Steps.{hold, next, eventsAt, shows}
 use Rattle.steps.proofs.SettledLaws.{events-most}
 
 pub most-at : (st : Portions) (b : ℕ) → length (eventsAt st b) ≤ 16384

@@ -3,7 +3,7 @@
 use Prim.Native.Nat.{ℕ, _+_, _≤_, _<_}
 use mathlib.Core.Path.{_≡_, refl, sym, ap, _∙_}
 use mathlib.Core.Bool.{Bool, true, false}
-use mathlib.Core.List.{List, [], _++_, append-nil}
+use mathlib.Core.List.{List, [], append-nil}
 use native.Mathlib.Omega.{arith}
 use lib.ListN.{length, take, drop, take-append-drop, length-take}
 use lib.Dec.{leb, eqb}
@@ -16,7 +16,7 @@ use Rattle.def_wire.specs.Bytes.{four}
 use Rattle.def_wire.specs.Packet.{announcedOf}
 use Rattle.def_portions.specs.Events.{need, headFault}
 use Rattle.states.specs.declared.Portions.{Portions}
-use Rattle.states.specs.Steps.{head, low32, heldOver, holds, whereFine, goodLength, faultOf, settled, settledEvents, shows}
+use Rattle.states.specs.Steps.{head, low32, heldOver, holds, whereFine, goodLength, faultOf, shows}
 use Rattle.states.specs.Call.{announcedBy, takenIn, pastBy, pastOf}
 use Rattle.states.proofs.RunLaws.{shows-closed, item-shows}
 use Rattle.steps.proofs.SettledLaws.{events-open, settled-unfit, events-unfit}

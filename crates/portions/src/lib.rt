@@ -1,6 +1,6 @@
-// The standard reading of a packet that comes in portions, some bytes at a time (RULES, "Packets in portions"): a state
-// of fixed size goes in by value and comes back, and a call's events go into three lent lists. Nothing of the packet is
-// kept but the bytes of an item that is not complete.
+// The standard reading of a packet that comes in portions, some bytes at a time (RULES, "Packets in portions"): a
+// state of fixed size goes in by value and comes back, and a call's events go into three lent lists. Nothing of the
+// packet is kept but the bytes of an item that is not complete.
 ghost use mathlib.Core.Path.{_≡_};
 ghost use Prim.Native.Nat.{_+_, _≤_};
 ghost use lib.ListN.{length};

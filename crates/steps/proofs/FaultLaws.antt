@@ -1,17 +1,15 @@
--- What a packet's and a block's first four bytes show, by the tests that lead there: the one place that unfolds
--- `headFault` and `blockFault`. Assumes nothing.
+-- What a packet's first four bytes show, by the tests that lead there: the one place that unfolds `headFault`. Assumes
+-- nothing.
 use Prim.Native.Nat.{ℕ, _/_, _%_, _≤_, _<_}
 use mathlib.Core.Path.{_≡_}
 use mathlib.Core.List.{List}
 use native.Mathlib.Omega.{arith}
 use borrow.Author.Tests.{le-leb, lt-leb, eq-eqb, ne-eqb}
 use Rattle.def_refusals.specs.declared.Refusal.the-variants.{TooShort, WrongVersion, WrongPacketType, Padded}
-use Rattle.def_refusals.specs.declared.Refusal.the-variants.{BlockTooLong}
 use Rattle.def_refusals.specs.declared.Checked.the-variants.{Fine, Unfit}
 use Rattle.def_wire.specs.Bytes.{byteAt}
 use Rattle.def_wire.specs.Packet.{announcedOf}
-use Rattle.def_wire.specs.Block.{typeOf, blockLength, kindOf}
-use Rattle.def_portions.specs.Events.{headFault, blockFault, ruleOf}
+use Rattle.def_portions.specs.Events.{headFault}
 
 -- the packet's first four bytes v: the length that they announce, the first byte and the second are known by equations
 module _ (v : List ℕ) (l : ℕ) (e : l ≡ announcedOf v) where
@@ -41,13 +39,3 @@ module _ (v : List ℕ) (l : ℕ) (e : l ≡ announcedOf v) where
         unfolding headFault
         head-fine p = let k : 8 ≤ announcedOf v = omega arith in
             rw (le-leb 8 _ k, eq-eqb _ _ (rw f at good), eq-eqb _ _ (rw s at type), ne-eqb _ _ (rw f at p))
-
--- a block's first four bytes v, with so many bytes left for blocks
-module _ (left : ℕ) (v : List ℕ) (l : ℕ) (e : l ≡ blockLength v) where
-  pub block-long : left < l → Unfit (BlockTooLong l left) ≡ blockFault left v
-  unfolding blockFault
-  block-long h = let k : left < blockLength v = omega arith in rw (e, lt-leb _ left k)
-
-  pub block-rule : l ≤ left → ruleOf (kindOf (typeOf v)) l ≡ blockFault left v
-  unfolding blockFault
-  block-rule h = let k : blockLength v ≤ left = omega arith in rw (e, le-leb _ left k)

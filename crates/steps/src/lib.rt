@@ -3,10 +3,12 @@
 ghost use mathlib.Core.Path.{_≡_};
 ghost use Prim.Native.Nat.{_+_, _≤_};
 ghost use lib.ListN.{length};
+ghost use lib.Dec.{leb};
+ghost use Rattle.def_refusals.specs.Answers.{thenCheck};
 ghost use Rattle.def_wire.specs.Bytes.{four};
 ghost use Rattle.def_wire.specs.Packet.{part};
 ghost use Rattle.def_wire.specs.Block.{typeOf, specificOf, blockLength, kindOf};
-ghost use Rattle.def_portions.specs.Events.{headFault, blockFault, ruleOf};
+ghost use Rattle.def_portions.specs.Events.{need, headFault, blockFault, ruleOf};
 ghost use Rattle.states.specs.Steps.{start as startOf, known as knownOf, heldWith, heldOver, holds, faultOf};
 ghost use Rattle.states.specs.Steps.{nextBlock, opened as openedAt, inBlock, inPacket, thinningIn, fieldsIn};
 ghost use Rattle.states.specs.Steps.{ranged as rangedBy, moved as movedOn, passed as passedOf, startIn, loneOf};
@@ -152,16 +154,35 @@ fn rule_of(t: u8, length: u32) -> Checked
     }
 }
 
+// 6: a block is longer than what is left for blocks, of which so many bytes are behind its first four.
+fn too_long(l: usize, behind: usize) -> Checked
+    requires { ⌜ 4 ≤ l ⌝ }
+    ensures { λ r. ⌜ r ≡ need (leb l (behind + 4)) (Refusal.BlockTooLong l (behind + 4)) ⌝ }
+{
+    if behind < l - 4 {
+        return Checked::Unfit(Refusal::BlockTooLong(l, behind + 4));
+    }
+    Checked::Fine
+}
+
+// The second check, where the first is fine.
+fn then_check(first: Checked, second: Checked) -> Checked
+    ensures { λ r. ⌜ r ≡ thenCheck first second ⌝ }
+{
+    match first {
+        Checked::Fine => second,
+        Checked::Unfit(x) => Checked::Unfit(x),
+    }
+}
+
 // What a block's first four bytes show, with so many bytes of the packet behind them: 6, 7.
 fn block_fault(behind: usize, w: u32) -> Checked
     ensures { λ r. ⌜ r ≡ blockFault (behind + 4) (four w) ⌝ }
 {
     let length = length_of(w);
-    let l = length as usize;
-    if behind < l - 4 {
-        return Checked::Unfit(Refusal::BlockTooLong(l, behind + 4));
-    }
-    rule_of(first_byte(w), length)
+    let long = too_long(length as usize, behind);
+    let unfit = rule_of(first_byte(w), length);
+    then_check(long, unfit)
 }
 
 // The refusal that the item at hand shows, where it is complete: such an item stays at hand.
@@ -463,10 +484,10 @@ pub fn settle(st: Portions) -> Settled
 fn more(item: u8, held: u64, b: u8) -> u64
     ensures { λ r. ⌜ r ≡ heldWith item held b ⌝ }
 {
-    if item == states::SKIPPED {
-        return held;
+    if item != states::SKIPPED {
+        return held % 72057594037927936 * 256 + b as u64;
     }
-    held % 72057594037927936 * 256 + b as u64
+    held
 }
 
 // Four bytes more at once.

@@ -1,14 +1,9 @@
--- `portions::announced_by` meets its contract.
+-- `portions::announced_by` meets its contract: known before, or with the header's last byte.
 use borrow.Author.Tests.{eq-eqb, ne-eqb, le-leb, lt-leb}
 use Rattle.states.specs.Call.{announcedBy}
 use borrow.Author.Needs.{needs}
 use Rattle.portions.proofs.announced_by.Statement.{statement}
 use Rattle.portions.proofs.announced_by.Tie as tie
-use Rattle.portions.proofs.announced_by.Reads as reads
-use Rattle.portions.proofs.announced_by.Lts as lts
-use Rattle.steps.proofs.good_length.Reads as good-length-reads
-use Rattle.steps.proofs.hold.Reads as hold-reads
-use Rattle.steps.proofs.low32.Reads as low32-reads
 
 returns : tie.Need-returns
 unfolding announcedBy

@@ -6,16 +6,12 @@ use Rattle.portions.proofs.CallLaws.{call-stays, call-past, call-room}
 use borrow.Author.Needs.{needs}
 use Rattle.portions.proofs.call_fault.Statement.{statement}
 use Rattle.portions.proofs.call_fault.Tie as tie
-use Rattle.portions.proofs.call_fault.Reads as reads
-use Rattle.portions.proofs.call_fault.Lts as lts
-use Rattle.portions.proofs.past_end.Reads as past-end-reads
-use Rattle.portions.proofs.too_little.Reads as too-little-reads
-use Rattle.steps.proofs.fault.Reads as fault-reads
 
 too-little-requires : tie.Need-too-little-requires
 too-little-requires c κs = let p = c .before .before in
     let s = p .before .before .before .before .before in
-    past-few (s .args .st) (s .args .x .now) (omega (arith, s .good)) (sym (p .past-end .ensures) ∙ c .enum-told2 .given .1)
+    let e = sym (p .past-end .ensures) ∙ c .enum-told2 .given .1 in
+    past-few (s .args .st) (s .args .x .now) (omega (arith, s .good)) e
 
 returns : tie.Need-returns
 returns c = let t = c .before in
@@ -23,7 +19,9 @@ returns c = let t = c .before in
     let u = p .before in
     let f = u .before .before in
     let a = f .before .before .args in
-    c .too-little .ensures ∙ call-room (a .st) (a .x .now) (a .room) (sym (f .fault .ensures) ∙ u .enum-told .given .1) (sym (p .past-end .ensures) ∙ t .enum-told2 .given .1)
+    c .too-little .ensures
+    ∙ call-room (a .st) (a .x .now) (a .room) (sym (f .fault .ensures) ∙ u .enum-told .given .1)
+    (sym (p .past-end .ensures) ∙ t .enum-told2 .given .1)
 
 returns-2 : tie.Need-returns-2
 returns-2 c = let y = c .before in
@@ -31,7 +29,8 @@ returns-2 c = let y = c .before in
     let u = p .before in
     let f = u .before .before in
     let a = f .before .before .args in
-    call-past (a .st) (a .x .now) (a .room) _ (sym (f .fault .ensures) ∙ u .enum-told .given .1) (sym (p .past-end .ensures) ∙ y .y .given .1)
+    call-past (a .st) (a .x .now) (a .room) _ (sym (f .fault .ensures) ∙ u .enum-told .given .1)
+    (sym (p .past-end .ensures) ∙ y .y .given .1)
 
 returns-3 : tie.Need-returns-3
 returns-3 c = let y = c .before in

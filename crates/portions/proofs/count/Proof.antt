@@ -1,19 +1,15 @@
 -- `portions::count` meets its contract: what was counted so far and what is still to come make up the whole.
-use Prim.Native.Nat.{_+_, _-_, _≤_, _<_}
+use Prim.Native.Nat.{_-_}
 use mathlib.Core.Path.{_≡_, ap, _∙_}
 use native.Mathlib.Omega.{arith}
 use lib.ListN.{length}
 use Rattle.def_wire.specs.Packet.{part}
 use Rattle.states.specs.Steps.{holds, settledOf}
-use Rattle.portions.proofs.StoreTurn.{Counted, count-begun, count-room, count-onward, count-ended, count-closed}
+use Rattle.portions.proofs.StoreTurn.{Taken, taken, Counted, count-begun, count-room, count-onward}
+use Rattle.portions.proofs.StoreTurn.{count-ended, count-closed}
 use borrow.Author.Needs.{needs}
 use Rattle.portions.proofs.count.Statement.{statement}
 use Rattle.portions.proofs.count.Tie as tie
-use Rattle.portions.proofs.count.Reads as reads
-use Rattle.portions.proofs.count.Lts as lts
-use Rattle.steps.proofs.hold.Reads as hold-reads
-use Rattle.steps.proofs.settle.Reads as settle-reads
-use Rattle.utils.proofs.lesser.Reads as lesser-reads
 
 abbrev Inv-loop : tie.InvT-loop
 Inv-loop x at₀ n₀ s₀ at n s = Counted s₀ x s at n
@@ -21,29 +17,23 @@ Inv-loop x at₀ n₀ s₀ at n s = Counted s₀ x s at n
 abbrev μ-loop : tie.MeasureT-loop
 μ-loop x at₀ n₀ s₀ at n s = length x - at
 
--- the bytes of the item at hand: some are missing, and no more are taken than are missing and than there are
-module _ (c : tie.After-lesser Inv-loop μ-loop) where
-  abbrev head : tie.At-loop Inv-loop μ-loop
-  head = c .before .before .before .before
+-- the function's start, and the bytes of the item at hand
+abbrev entry : tie.At-loop Inv-loop μ-loop → tie.Start Inv-loop μ-loop
+entry l = l .before .before
 
-  more : 0 < head .loop .s .missing
-  more = omega (arith, c .before .if1 .left)
+abbrev head : tie.After-lesser Inv-loop μ-loop → tie.At-loop Inv-loop μ-loop
+head m = m .before .before .before .before
 
-  most : c .lesser .result ≤ head .loop .s .missing
-  most = omega (arith, c .lesser .ensures)
+bytes : (m : tie.After-lesser Inv-loop μ-loop) → let l = head m in
+    Taken (l .loop .s) (entry l .args .x .now) (l .loop .at) (m .lesser .result)
+bytes m = taken _ _ _ _ (m .before .if1 .left) (m .before .before .before .loop-test .taken) (m .lesser .ensures)
 
-  fits : head .loop .at + c .lesser .result ≤ length (head .before .before .args .x .now)
-  fits = omega (arith, c .lesser .ensures, head .loop .inv .inside)
-
-  -- at least one is taken
-  some : 0 < c .lesser .result
-  some = let t = c .before .before .before .loop-test .taken in omega (arith, c .lesser .ensures, more, t)
-
--- the state behind it
-behind : (c : tie.After-settle Inv-loop μ-loop) → let m = c .before .before in let l = head m in
-    c .settle .result
-    ≡ settledOf (holds (l .loop .s) (part (l .before .before .args .x .now) (l .loop .at) (m .lesser .result)))
-behind c = c .settle .ensures ∙ ap settledOf (c .before .hold .ensures)
+-- the state behind them, and how many events they show
+behind : (t : tie.After-settle Inv-loop μ-loop) → let m = t .before .before in
+    let l = head m in
+    t .settle .result
+    ≡ settledOf (holds (l .loop .s) (part (entry l .args .x .now) (l .loop .at) (m .lesser .result)))
+behind t = t .settle .ensures ∙ ap settledOf (t .before .hold .ensures)
 
 loop-holds : tie.Need-loop-holds Inv-loop μ-loop
 loop-holds c = count-begun
@@ -52,25 +42,23 @@ returns : tie.Need-returns Inv-loop μ-loop
 returns c = count-closed (c .before .before .before .loop .inv) (c .if1 .taken)
 
 hold-requires : tie.Need-hold-requires Inv-loop μ-loop
-hold-requires c κs = fits c
+hold-requires c κs = bytes c .fits
 
 add-n : tie.Need-add-n Inv-loop μ-loop
 add-n c = let t = c .before .before in
-    let m = t .before .before in
-    let l = head m in
-    let k = count-room (l .loop .inv) (m .lesser .result) (more m) (most m) (fits m) (t .settle .result) (behind t) in
-    omega (arith, k, l .before .before .pre)
+    let l = head (t .before .before) in
+    omega (arith, entry l .pre, count-room (l .loop .inv) (bytes (t .before .before)) _ (behind t))
 
 add-at : tie.Need-add-at Inv-loop μ-loop
-add-at c = omega (arith, fits (c .before .before .before .before))
+add-at c = omega (arith, bytes (c .before .before .before .before) .fits)
 
 loop-less : tie.Need-loop-less Inv-loop μ-loop
-loop-less c = let m = c .before .before .before .before in omega (arith, fits m, some m)
+loop-less c = let b = bytes (c .before .before .before .before) in omega (arith, b .fits, b .some)
 
 loop-again : tie.Need-loop-again Inv-loop μ-loop
 loop-again c = let t = c .before .before in
     let m = t .before .before in
-    count-onward (head m .loop .inv) (m .lesser .result) (more m) (most m) (fits m) (t .settle .result) (behind t)
+    count-onward (head m .loop .inv) (bytes m) _ (behind t)
 
 returns-2 : tie.Need-returns-2 Inv-loop μ-loop
 returns-2 c = count-ended (c .before .loop .inv) (c .loop-test .left)

@@ -7,12 +7,6 @@ use Rattle.portions.proofs.CallLaws.{room-fine, following, unmoved}
 use borrow.Author.Needs.{needs}
 use Rattle.portions.proofs.follow.Statement.{statement}
 use Rattle.portions.proofs.follow.Tie as tie
-use Rattle.portions.proofs.follow.Reads as reads
-use Rattle.portions.proofs.follow.Lts as lts
-use Rattle.portions.proofs.call_fault.Reads as call-fault-reads
-use Rattle.portions.proofs.room_in.Reads as room-in-reads
-use Rattle.portions.proofs.store.Reads as store-reads
-use Rattle.steps.proofs.fault.Reads as fault-reads
 
 -- what refuses it
 abbrev start : tie.After-call-fault → tie.Start

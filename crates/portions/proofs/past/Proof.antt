@@ -2,8 +2,6 @@
 use borrow.Author.Tests.{le-leb, lt-leb}
 use Rattle.portions.proofs.past.Statement.{statement}
 use Rattle.portions.proofs.past.Tie as tie
-use Rattle.portions.proofs.past.Reads as reads
-use Rattle.portions.proofs.past.Lts as lts
 
 returns : tie.Need-returns
 returns c = rw (le-leb _ _ (c .if1 .taken))

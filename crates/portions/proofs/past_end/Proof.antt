@@ -1,15 +1,10 @@
--- `portions::past_end` meets its contract.
+-- `portions::past_end` meets its contract: 19.
 use mathlib.Core.Path.{sym, _∙_}
 use borrow.Author.Tests.{eq-eqb, ne-eqb}
 use Rattle.states.specs.Call.{pastOf}
 use borrow.Author.Needs.{needs}
 use Rattle.portions.proofs.past_end.Statement.{statement}
 use Rattle.portions.proofs.past_end.Tie as tie
-use Rattle.portions.proofs.past_end.Reads as reads
-use Rattle.portions.proofs.past_end.Lts as lts
-use Rattle.portions.proofs.announced_by.Reads as announced-by-reads
-use Rattle.portions.proofs.past.Reads as past-reads
-use Rattle.portions.proofs.taken_in.Reads as taken-in-reads
 
 returns : tie.Need-returns
 unfolding pastOf

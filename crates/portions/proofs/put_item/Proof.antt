@@ -5,18 +5,11 @@ use lib.ListN.{take}
 use Rattle.def_standard.specs.Chunks.{valuesIn}
 use Rattle.ones.specs.Along.{along}
 use Rattle.states.specs.Steps.{low16, numbersIn}
-use Rattle.portions.proofs.ItemLaws.{numbers-stored, length-word, word-laid, length-lone, lone-laid, nothing-laid}
+use Rattle.portions.proofs.ItemLaws.{numbers-stored, length-word, word-laid, length-lone, lone-laid}
+use Rattle.portions.proofs.ItemLaws.{nothing-laid}
 use borrow.Author.Needs.{needs}
 use Rattle.portions.proofs.put_item.Statement.{statement}
 use Rattle.portions.proofs.put_item.Tie as tie
-use Rattle.portions.proofs.put_item.Reads as reads
-use Rattle.portions.proofs.put_item.Lts as lts
-use Rattle.event_lists.proofs.put.Reads as put-reads
-use Rattle.event_lists.proofs.put_word.Reads as put-word-reads
-use Rattle.range.proofs.doubled.Reads as doubled-reads
-use Rattle.steps.proofs.lone.Reads as lone-reads
-use Rattle.steps.proofs.low16.Reads as low16-reads
-use Rattle.steps.proofs.thinning_of.Reads as thinning-of-reads
 
 -- the function's start, from where its item was tested
 abbrev start : tie.After-struct-known → tie.Start
@@ -32,7 +25,8 @@ numbers : (c : tie.After-low16) → let s = start (tested c .before) .args .st i
 numbers c =
     let d = c .before .before .before in
     let s = start (tested c .before) .args .st in
-    numbers-stored (s .known) (s .held) _ _ _ (d .before .thinning-of .ensures) (d .doubled .ensures) (c .low16 .ensures)
+    let t = d .before .thinning-of .ensures in
+    numbers-stored (s .known) (s .held) _ _ _ t (d .doubled .ensures) (c .low16 .ensures)
 
 put-word-requires : tie.Need-put-word-requires
 put-word-requires c κs =

@@ -12,12 +12,6 @@ use Rattle.steps.proofs.SettledLaws.{settled-unfit, events-unfit}
 use borrow.Author.Needs.{needs}
 use Rattle.portions.proofs.put_settled.Statement.{statement}
 use Rattle.portions.proofs.put_settled.Tie as tie
-use Rattle.portions.proofs.put_settled.Reads as reads
-use Rattle.portions.proofs.put_settled.Lts as lts
-use Rattle.event_lists.proofs.put.Reads as put-reads
-use Rattle.portions.proofs.put_item.Reads as put-item-reads
-use Rattle.steps.proofs.fault.Reads as fault-reads
-use Rattle.steps.proofs.passed.Reads as passed-reads
 
 -- the function's start, from where bytes were missing or not
 abbrev start : tie.After-struct-known → tie.Start
@@ -62,10 +56,11 @@ put-requires c κs =
     let o = complete t in
     let s = start (o .before) in
     let l = p .put-item .ensures in
-    let k = ap length (events-over (s .args .st) (o .if1 .left) (fine t) (is-over i)) ∙ length-append (shownBy (s .args .st)) (End ∷ []) in (
-      omega (arith, s .pre, k, l .past, same-tags l),
-      omega (arith, s .pre, k, l .past, same-numbers l),
-      omega (arith, s .pre, k, l .past, same-values l),
+    let k = ap length (events-over (s .args .st) (o .if1 .left) (fine t) (is-over i)) in
+    let j = length-append (shownBy (s .args .st)) (End ∷ []) in (
+      omega (arith, s .pre, k, j, l .past, same-tags l),
+      omega (arith, s .pre, k, j, l .past, same-numbers l),
+      omega (arith, s .pre, k, j, l .past, same-values l),
     )
 
 returns-2 : tie.Need-returns-2
@@ -78,7 +73,8 @@ returns-2 c =
     let o = complete t in
     let s = start (o .before) .args .st in (
       n .passed .ensures ∙ sym (settled-fine s (o .if1 .left) (fine t)),
-      laid-as (sym (events-over s (o .if1 .left) (fine t) (is-over i))) (and-then (p .put-item .ensures) (q .put .ensures)),
+      laid-as (sym (events-over s (o .if1 .left) (fine t) (is-over i)))
+          (and-then (p .put-item .ensures) (q .put .ensures)),
     )
 
 returns-3 : tie.Need-returns-3

@@ -1,42 +1,34 @@
 -- `portions::store` meets its contract: what was stored so far and what is still to come make up the whole.
-use Prim.Native.Nat.{ℕ, _+_, _-_, _≤_, _<_}
-use mathlib.Core.Path.{_≡_}
+use Prim.Native.Nat.{_-_}
 use native.Mathlib.Omega.{arith}
 use lib.ListN.{length}
 use Rattle.event_lists.proofs.LaidLaws.{same-tags, same-numbers, same-values}
-use Rattle.portions.proofs.StoreTurn.{Underway, begun, room, onward, ended, closed}
+use Rattle.portions.proofs.StoreTurn.{Taken, taken, Underway, begun, room, onward, ended, closed}
 use borrow.Author.Needs.{needs}
 use Rattle.portions.proofs.store.Statement.{statement}
 use Rattle.portions.proofs.store.Tie as tie
-use Rattle.portions.proofs.store.Reads as reads
-use Rattle.portions.proofs.store.Lts as lts
-use Rattle.portions.proofs.put_settled.Reads as put-settled-reads
-use Rattle.steps.proofs.hold.Reads as hold-reads
-use Rattle.utils.proofs.lesser.Reads as lesser-reads
 
 abbrev Inv-loop : tie.InvT-loop
-Inv-loop x tags₀ numbers₀ values₀ at₀ n₀ s₀ tags numbers values at n s = Underway s₀ x tags₀ numbers₀ values₀ tags numbers values s at n
+Inv-loop x tags₀ numbers₀ values₀ at₀ n₀ s₀ tags numbers values at n s =
+    Underway s₀ x tags₀ numbers₀ values₀ tags numbers values s at n
 
 abbrev μ-loop : tie.MeasureT-loop
 μ-loop x tags₀ numbers₀ values₀ at₀ n₀ s₀ tags numbers values at n s = length x - at
 
--- the bytes of the item at hand: some are missing, and no more are taken than are missing and than there are
-module _ (c : tie.After-lesser Inv-loop μ-loop) where
-  abbrev head : tie.At-loop Inv-loop μ-loop
-  head = c .before .before .before .before
+-- the function's start, and the bytes of the item at hand
+abbrev entry : tie.At-loop Inv-loop μ-loop → tie.Start Inv-loop μ-loop
+entry l = l .before .before .before .before .before
 
-  more : 0 < head .loop .s .missing
-  more = omega (arith, c .before .if1 .left)
+abbrev head : tie.After-lesser Inv-loop μ-loop → tie.At-loop Inv-loop μ-loop
+head m = m .before .before .before .before
 
-  most : c .lesser .result ≤ head .loop .s .missing
-  most = omega (arith, c .lesser .ensures)
+bytes : (m : tie.After-lesser Inv-loop μ-loop) → let l = head m in
+    Taken (l .loop .s) (entry l .args .x .now) (l .loop .at) (m .lesser .result)
+bytes m = taken _ _ _ _ (m .before .if1 .left) (m .before .before .before .loop-test .taken) (m .lesser .ensures)
 
-  fits : head .loop .at + c .lesser .result ≤ length (head .before .before .before .before .before .args .x .now)
-  fits = omega (arith, c .lesser .ensures, head .loop .inv .inside)
-
-  -- at least one is taken
-  some : 0 < c .lesser .result
-  some = let t = c .before .before .before .loop-test .taken in omega (arith, c .lesser .ensures, more, t)
+-- from where the item's events were stored
+abbrev held : tie.After-s Inv-loop μ-loop → tie.After-hold Inv-loop μ-loop
+held c = c .before .before .before .before .before .before .before .before .before .before .before
 
 loop-holds : tie.Need-loop-holds Inv-loop μ-loop
 loop-holds c = begun
@@ -54,30 +46,25 @@ returns : tie.Need-returns Inv-loop μ-loop
 returns c = closed (c .before .before .before .loop .inv) (c .if1 .taken)
 
 hold-requires : tie.Need-hold-requires Inv-loop μ-loop
-hold-requires c κs = fits c
+hold-requires c κs = bytes c .fits
 
 put-settled-requires : tie.Need-put-settled-requires Inv-loop μ-loop
 put-settled-requires c κs = let h = c .before .before .before in
-    let m = h .before in
-    let l = head m in
-    rw (h .hold .ensures)
-    (room (l .loop .inv) (m .lesser .result) (more m) (most m) (fits m) (l .before .before .before .before .before .pre))
+    let l = head (h .before) in
+    rw (h .hold .ensures) (room (l .loop .inv) (bytes (h .before)) (entry l .pre))
 
 add-at : tie.Need-add-at Inv-loop μ-loop
-add-at c = let m = c .before .before .before .before .before .before .before .before .before .before .before .before in
-    omega (arith, fits m)
+add-at c = let m = held c .before in omega (arith, bytes m .fits, entry (head m) .good)
 
 loop-less : tie.Need-loop-less Inv-loop μ-loop
-loop-less c = let m = c .before .before .before .before .before .before .before .before .before .before .before .before in
-    omega (arith, fits m, some m)
+loop-less c = let b = bytes (held c .before) in omega (arith, b .fits, b .some)
 
 loop-again : tie.Need-loop-again Inv-loop μ-loop
 loop-again c =
+    let h = held c in
     let p = c .before .before .before .before .before .before .before in
-    let h = p .before .before .before .before in
-    let m = h .before in
     let e = rw (h .hold .ensures) at (p .put-settled .ensures) in
-    onward (head m .loop .inv) (m .lesser .result) (more m) (most m) (fits m) (e .0) (e .1)
+    onward (head (h .before) .loop .inv) (bytes (h .before)) (e .0) (e .1)
 
 same-length-4 : tie.Need-same-length-4 Inv-loop μ-loop
 same-length-4 c = same-tags (c .before .loop .inv .stored)

@@ -6,9 +6,6 @@ use Rattle.states.specs.Call.{takenIn}
 use borrow.Author.Needs.{needs}
 use Rattle.portions.proofs.taken_in.Statement.{statement}
 use Rattle.portions.proofs.taken_in.Tie as tie
-use Rattle.portions.proofs.taken_in.Reads as reads
-use Rattle.portions.proofs.taken_in.Lts as lts
-use Rattle.utils.proofs.above.Reads as above-reads
 
 returns : tie.Need-returns
 unfolding takenIn
@@ -18,7 +15,8 @@ returns-2 : tie.Need-returns-2
 unfolding takenIn
 returns-2 c = let b = c .before in
     let a = b .before in
-    rw (c .above4 .ensures, b .above3 .ensures, a .above2 .ensures, ne-eqb _ _ (a .before .before .if1 .left)) (refl, omega arith)
+    rw (c .above4 .ensures, b .above3 .ensures, a .above2 .ensures, ne-eqb _ _ (a .before .before .if1 .left))
+    (refl, omega arith)
 
 pub taken-in-spec : {M : Type 1} → statement M
 taken-in-spec =

@@ -1,13 +1,10 @@
--- `portions::too_little` meets its contract.
+-- `portions::too_little` meets its contract: 11. Where the room is enough for any bytes, nothing is counted.
 use native.Mathlib.Omega.{arith}
 use Rattle.portions.proofs.MostLaws.{most-shown}
 use Rattle.portions.proofs.CallLaws.{room-enough, room-short}
 use borrow.Author.Needs.{needs}
 use Rattle.portions.proofs.too_little.Statement.{statement}
 use Rattle.portions.proofs.too_little.Tie as tie
-use Rattle.portions.proofs.too_little.Reads as reads
-use Rattle.portions.proofs.too_little.Lts as lts
-use Rattle.portions.proofs.count.Reads as count-reads
 
 returns : tie.Need-returns
 returns c = let a = c .before .before .args in
