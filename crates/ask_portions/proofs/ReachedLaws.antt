@@ -45,7 +45,7 @@ module _ (b y : List ℕ) where
   takes-by Fine (Unfit x) es r = takes-none
   takes-by Fine Fine es r = takes-all
 
-  takes : (room : ℕ) → Takes (callOf b y room)
+  pub takes : (room : ℕ) → Takes (callOf b y room)
   unfolding callOf
   takes room =
       let s = b ++ y in

@@ -3,25 +3,35 @@
 --     call-shows     what the next call gives
 --     fed-shows      what calls one after the other list, and the last refusal
 --     division, whole-reading, one-byte
-use Prim.Native.Nat.{ℕ, _-_, _≤_}
+use Prim.Native.Nat.{ℕ, _+_, _-_, _%_, _≤_}
 use mathlib.Core.Path.{_≡_, refl, sym, ap, ap₂, subst, _∙_}
+use mathlib.Core.Bool.{Bool, true, false, not, _&&_}
 use mathlib.Core.List.{List, [], _∷_, _++_}
 use native.Mathlib.Omega.{arith}
 use lib.ListN.{length, take}
 use lib.Dec.{leb, eqb}
 use borrow.Author.Tests.{eqb-true, le-leb}
 use Rattle.laws.proofs.Tests.{either, by-test}
-use Rattle.def_refusals.specs.declared.Refusal.the-variants.{NoRoom, PastEnd}
+use Rattle.def_refusals.specs.declared.Refusal.{Refusal}
+use Rattle.def_refusals.specs.declared.Refusal.the-variants.{TooShort, WrongVersion, WrongPacketType, NoRoom, PastEnd}
+use Rattle.def_refusals.specs.declared.Refusal.the-variants.{Padded, BlockTooLong}
 use Rattle.def_refusals.specs.declared.Checked.{Checked}
 use Rattle.def_refusals.specs.declared.Checked.the-variants.{Fine, Unfit}
+use Rattle.def_refusals.specs.Answers.{thenCheck}
+use Rattle.def_wire.specs.declared.Kind.the-variants.{Spans, Clock, Echoes}
+use Rattle.def_wire.specs.declared.KindOr.{KindOr}
+use Rattle.def_wire.specs.declared.KindOr.the-variants.{AKind, NoKind}
+use Rattle.def_wire.specs.Packet.{announcedOf, isPadded, versionOf}
+use Rattle.def_wire.specs.Bytes.{byteAt, four}
+use Rattle.def_wire.specs.Block.{rule, nextFit, typeOf, blockLength, kindOf, standardRule}
 use Rattle.def_questions.specs.Questions.{least3}
 use Rattle.def_portions.specs.declared.Event.{Event}
-use Rattle.def_portions.specs.Events.{Course, course, courseOf, need}
+use Rattle.def_portions.specs.Events.{Course, course, courseOf, need, headFault, blockFault, ruleOf}
 use Rattle.def_portions.specs.Calls.{Call, callOf, pastFault, roomFault}
 use Rattle.states.specs.declared.Portions.{Portions}
 use Rattle.states.specs.declared.Followed.{Followed}
-use Rattle.states.specs.Steps.{start, faultOf, itemFault, after, shows}
-use Rattle.states.specs.Call.{pastOf, pastBy, callFault, followedBy, followedOf, givenBy, givenOf, Following}
+use Rattle.states.specs.Steps.{start, head, block, low32, faultOf, after, shows}
+use Rattle.states.specs.Call.{announcedBy, takenIn, pastOf, pastBy, callFault, followedBy, followedOf, givenBy, givenOf, Following}
 use Rattle.states.proofs.RunLaws.{after-append, shows-append, after-closed, shows-closed}
 use Rattle.event_lists.specs.Parts.{eventsIn}
 use Rattle.portions.proofs.MostLaws.{most-shown}
@@ -72,12 +82,19 @@ reached (behind r y f) = stands (reached r) y f
 pub call-shows : CallShows
 call-shows st b x t u v t′ u′ v′ r w y f =
     let s = reached w in
-    let bound : Bounded st = rw (s .state) (bounded-after start b bounded-start) in
-    (ap (λ (a : Followed). a .refusal) (answer s y f),
-    taken s y f,
-    listed f bound ∙ (rw (s .state) (call-given b x (least3 t u v) y (s .within))))
+    let bound : Bounded st = rw (s .state) (bounded-after start b bounded-start) in (
+      ap (λ (a : Followed). a .refusal) (answer s y f),
+      taken s y f,
+      listed f bound ∙ (rw (s .state) (call-given b x (least3 t u v) y (s .within))),
+    )
 
 -- ---- calls one after the other
+
+unlike : {P : Type 0} {z : Refusal} → _≡_ {A = Checked} Fine (Unfit z) → P
+unlike e = absurd (let q : _≡_ {A = ℕ} 0 1 = cc in omega arith)
+
+unfit : {x z : Refusal} → _≡_ {A = Checked} (Unfit x) (Unfit z) → x ≡ z
+unfit e = cc
 
 -- what a call that is neither 11 nor 19 leaves
 record Took (st : Portions) (x : List ℕ) (f : Checked) : Type 0 where
@@ -85,11 +102,130 @@ record Took (st : Portions) (x : List ℕ) (f : Checked) : Type 0 where
   state : followedBy f st x .state ≡ after st x
   refusal : followedBy f st x .refusal ≡ faultOf (after st x)
 
--- on a state that stays refused nothing is taken
-closed : (st : Portions) (y : Checked) → faultOf st ≡ y → (x : List ℕ) → (y ≡ Fine → ⊥) → st .missing ≡ 0
+-- a state that stays refused takes nothing
+closed : (st : Portions) (z : Refusal) → faultOf st ≡ Unfit z → st .missing ≡ 0
 unfolding faultOf
-closed st y e x n =
-    either (eqb (st .missing) 0) (λ t. eqb-true _ _ t) (λ z. absurd (n (sym e ∙ rw z)))
+closed st z =
+    by-test (eqb (st .missing) 0) (λ t e. eqb-true _ _ t) (λ t e. unlike e)
 
-no : {P : Type 0} {n m : ℕ} {y : Checked} → y ≡ Fine → y ≡ Unfit (NoRoom n m) → P
-no e f = absurd (let q : _≡_ {A = ℕ} 0 1 = cc in omega arith)
+-- 19 and 11 are what they are
+need-is : (b : Bool) (x z : Refusal) → need b x ≡ Unfit z → Unfit z ≡ Unfit x
+need-is true x z e = unlike e
+need-is false x z e = sym e
+
+module _ (st : Portions) (x : List ℕ) (room : ℕ) where
+  past-is : (z : Refusal) → pastOf st x ≡ Unfit z
+      → Unfit z ≡ Unfit (PastEnd (announcedBy st x) (takenIn st + length x))
+  unfolding pastOf
+  past-is z =
+      by-test (eqb (st .item) head && eqb (announcedBy st x) 0) (λ t e. unlike e)
+      (λ t e. need-is (leb (takenIn st + length x) (announcedBy st x)) _ z e)
+
+  took-by : (f g h : Checked) → faultOf st ≡ f → pastOf st x ≡ g → roomFault (shows st x) room ≡ h
+      → IsTaken (followedBy (thenCheck f (thenCheck g h)) st x .refusal) → Took st x (thenCheck f (thenCheck g h))
+  took-by (Unfit z) g h e p q i =
+      let m = closed st z e in
+      record {
+        given = sym (shows-closed st m x);
+        state = sym (after-closed st m x);
+        refusal = rw (after-closed st m x) (sym e);
+      }
+  took-by Fine (Unfit z) h e p q i = absurd (i .1 _ _ (past-is z p))
+  took-by Fine Fine (Unfit z) e p q i = absurd (i .0 _ _ (need-is (leb (length (shows st x)) room) _ z q))
+  took-by Fine Fine Fine e p q i = record { given = refl; state = refl; refusal = refl }
+
+  took : IsTaken (followedOf st x room .refusal) → Took st x (callFault st x room)
+  unfolding followedOf callFault
+  took i = took-by (faultOf st) (pastOf st x) (roomFault (shows st x) room) refl refl refl i
+
+record Shown (st : Portions) (s : List ℕ) (es : List Event) (last : Checked) : Type 0 where
+  events : es ≡ shows st s
+  refusal : last ≡ faultOf (after st s)
+
+fed-shows : {st : Portions} {told last : Checked} {s : List ℕ} {es : List Event} → Fed st told s es last → Bounded st
+    → told ≡ faultOf st → Shown st s es last
+unfolding shows after followedOf givenOf
+fed-shows ended b e = record { events = refl; refusal = e }
+fed-shows {st} (fed {x = x} {y = y} {t = t} {u = u} {v = v} {r = r} f i rest) b e =
+    let room = least3 t u v in
+    let k = took st x room (subst IsTaken (ap (λ (a : Followed). a .refusal) (f .answer)) i) in
+    let state : r .state ≡ after st x = ap (λ (a : Followed). a .state) (f .answer) ∙ k .state in
+    let told : r .refusal ≡ faultOf (r .state) =
+    ap (λ (a : Followed). a .refusal) (f .answer) ∙ k .refusal ∙ ap faultOf (sym state) in
+    let ih = fed-shows rest (subst Bounded (sym state) (bounded-after st x b)) told in
+    record {
+      events = ap₂ _++_ (listed f b ∙ k .given) (ih .events ∙ ap (λ (s : Portions). shows s y) state)
+          ∙ sym (shows-append st x y);
+      refusal = ih .refusal ∙ ap (λ (s : Portions). faultOf (after s y)) state ∙ ap faultOf (sym (after-append st x y));
+    }
+
+pub division : Division
+unfolding start faultOf
+division s es x w y p =
+    let k = fed-shows w bounded-start refl in
+    ap₂ course (k .events) (k .refusal) ∙ sym (runs s y p)
+
+pub whole-reading : WholeReading
+whole-reading s n es x w y c p f =
+    let d = division s es x w y (whole-within s n c p) ∙ whole s n c p f in
+    (ap (λ (a : Course). a .events) d, ap (λ (a : Course). a .fault) d)
+
+-- ---- one byte
+
+-- no item is refused as 11
+module _ (n m : ℕ) where
+  checked : (b : Bool) (x : Refusal) (next : Checked) → (_≡_ {A = Refusal} x (NoRoom n m) → ⊥)
+      → (next ≡ Unfit (NoRoom n m) → ⊥) → thenCheck (need b x) next ≡ Unfit (NoRoom n m) → ⊥
+  checked true x next f g e = g e
+  checked false x next f g e = f (unfit e)
+
+  ruled : (b : Bool) (expected actual : ℕ) → rule b expected actual ≡ Unfit (NoRoom n m) → ⊥
+  ruled true expected actual e = unlike e
+  ruled false expected actual e = absurd (let q : _≡_ {A = ℕ} 0 1 = cc in omega arith)
+
+  by-kind : (k : KindOr) (l : ℕ) → ruleOf k l ≡ Unfit (NoRoom n m) → ⊥
+  unfolding standardRule
+  by-kind (AKind (Spans g)) l e = ruled (leb 12 l) 12 l e
+  by-kind (AKind Clock) l e = ruled (eqb l 12) 12 l e
+  by-kind (AKind Echoes) l e = ruled (eqb ((l - 4) % 12) 0) (nextFit l) l e
+  by-kind NoKind l e = unlike e
+
+  head-not : (s : List ℕ) → headFault s ≡ Unfit (NoRoom n m) → ⊥
+  unfolding headFault
+  head-not s =
+      checked (leb 8 (announcedOf s)) (TooShort 8 (announcedOf s)) _ (λ (e : TooShort 8 (announcedOf s) ≡ NoRoom n m). absurd (let q : _≡_ {A = ℕ} 0 1 = cc in omega arith))
+      (checked (eqb (versionOf s) 2) WrongVersion _ (λ (e : WrongVersion ≡ NoRoom n m). absurd (let q : _≡_ {A = ℕ} 0 1 = cc in omega arith))
+      (checked (eqb (byteAt s 1) 207) WrongPacketType _ (λ (e : WrongPacketType ≡ NoRoom n m). absurd (let q : _≡_ {A = ℕ} 0 1 = cc in omega arith))
+      (λ e. let z : NoRoom n m ≡ Padded = unfit (need-is (not (isPadded s)) Padded (NoRoom n m) e) in
+      absurd (let q : _≡_ {A = ℕ} 0 1 = cc in omega arith))))
+
+  not-room : (st : Portions) → faultOf st ≡ Unfit (NoRoom n m) → ⊥
+  unfolding faultOf blockFault
+  not-room st =
+      by-test (eqb (st .missing) 0)
+      (λ t. by-test (eqb (st .item) head) (λ h e. head-not (four (low32 (st .held))) e)
+      (λ h. by-test (eqb (st .item) block)
+      (λ b. let v = four (low32 (st .held)) in
+      checked (leb (blockLength v) (st .behind + 4)) (BlockTooLong (blockLength v) (st .behind + 4)) _
+      (λ (e : BlockTooLong (blockLength v) (st .behind + 4) ≡ NoRoom n m).
+      absurd (let q : _≡_ {A = ℕ} 0 1 = cc in omega arith))
+      (by-kind (kindOf (typeOf v)) (blockLength v)))
+      (λ b e. unlike e)))
+      (λ t e. unlike e)
+
+  -- a refusal as 11 says that there are more events than room
+  room-says : (st : Portions) (x : List ℕ) (room : ℕ) (f g h : Checked) → faultOf st ≡ f → pastOf st x ≡ g
+      → roomFault (shows st x) room ≡ h → length (shows st x) ≤ room
+      → followedBy (thenCheck f (thenCheck g h)) st x .refusal ≡ Unfit (NoRoom n m) → ⊥
+  room-says st x room (Unfit z) g h e p q l w = not-room st (e ∙ w)
+  room-says st x room Fine (Unfit z) h e p q l w =
+      absurd (let o = sym w ∙ past-is st x room z p in let q : _≡_ {A = ℕ} 0 1 = cc in omega arith)
+  room-says st x room Fine Fine (Unfit z) e p q l w = unlike (rw (le-leb _ _ l) at q)
+  room-says st x room Fine Fine Fine e p q l w = not-room (after st x) w
+
+pub one-byte : OneByte
+unfolding followedOf callFault
+one-byte st b t u v t′ u′ v′ r f l n m e =
+    let x = b ∷ [] in
+    room-says n m st x (least3 t u v) (faultOf st) (pastOf st x) (roomFault (shows st x) (least3 t u v)) refl refl refl
+    (omega (arith, most-shown st x)) (sym (ap (λ (a : Followed). a .refusal) (f .answer)) ∙ e)
