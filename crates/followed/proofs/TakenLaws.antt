@@ -21,8 +21,8 @@ use Rattle.states.specs.Steps.{settled, next, after}
 use Rattle.states.specs.Call.{announcedBy, takenIn}
 use Rattle.states.proofs.RunLaws.{after-closed}
 use Rattle.followed.proofs.ItemRun.{not-zero}
-use Rattle.followed.proofs.GoingLaws.{Item, at-sender, at-block, at-fields, at-word, at-time, at-whose, at-echo}
-use Rattle.followed.proofs.GoingLaws.{at-clock, at-skipped, Counts, Going, asks, ended, passed-by}
+use Rattle.followed.proofs.InnerLaws.{at-fields, at-word, at-time, at-whose, at-echo, at-clock, at-skipped}
+use Rattle.followed.proofs.GoingLaws.{Item, at-sender, at-block, in-block, Counts, Going, asks, ended, passed-by}
 
 -- one byte of an item that asks for it
 held : {announced n : ℕ} (st : Portions) (b : ℕ) → 0 < st .missing → Counts announced n st
@@ -85,13 +85,13 @@ module _ (announced : ℕ) where
 item-past : (item rest : ℕ) → Item item rest → eqb item head ≡ false
 item-past item rest (at-sender i r) = rw i
 item-past item rest (at-block i r) = rw i
-item-past item rest (at-fields i r) = rw i
-item-past item rest (at-word i r) = rw i
-item-past item rest (at-time i r) = rw i
-item-past item rest (at-whose i r) = rw i
-item-past item rest (at-echo i r) = rw i
-item-past item rest (at-clock i r) = rw i
-item-past item rest (at-skipped i r) = rw i
+item-past item rest (in-block (at-fields i r)) = rw i
+item-past item rest (in-block (at-word i r)) = rw i
+item-past item rest (in-block (at-time i r)) = rw i
+item-past item rest (in-block (at-whose i r)) = rw i
+item-past item rest (in-block (at-echo i r)) = rw i
+item-past item rest (in-block (at-clock i r)) = rw i
+item-past item rest (in-block (at-skipped i r)) = rw i
 
 -- how many bytes were taken, and how many the header announces
 pub record Past (announced n : ℕ) (st : Portions) : Type 0 where
