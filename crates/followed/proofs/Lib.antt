@@ -6,6 +6,7 @@
 -- A packet: BlocksRun (its blocks), CourseRun (`runs`: the fold gives def_portions' course).
 -- A call: InnerLaws (the items of a block fill it), GoingLaws, TakenLaws (how many bytes a state has taken), PastLaws (19), CallLaws (`call-answer`,
 -- `call-given`, `call-keeps`: a call gives what def_portions says).
+-- A block whose bytes are all there: WholeBlock (what it shows, and the state behind it).
 -- All bytes: WholeLaws (`whole`: they show what the reading questions answer).
 pub mod ItemRun
 pub mod BehindRun
@@ -26,4 +27,5 @@ pub mod GoingLaws
 pub mod TakenLaws
 pub mod PastLaws
 pub mod CallLaws
+pub mod WholeBlock
 pub mod WholeLaws

@@ -44,7 +44,7 @@ settles c g z (Unfit r) e bs f =
     let q : _≡_ {A = ℕ} 0 1 = cc in absurd (omega arith)
 
 -- the state after a byte
-next-open : (st : Portions) (b : ℕ) → 0 < st .missing → 0 < st .missing - 1 → next st b ≡ hold st b
+pub next-open : (st : Portions) (b : ℕ) → 0 < st .missing → 0 < st .missing - 1 → next st b ≡ hold st b
 unfolding next settled
 next-open st b h m =
     rw (
@@ -52,7 +52,7 @@ next-open st b h m =
       not-zero (st .missing - 1) m,
     )
 
-next-complete : (st : Portions) (b : ℕ) → 0 < st .missing → st .missing - 1 ≡ 0
+pub next-complete : (st : Portions) (b : ℕ) → 0 < st .missing → st .missing - 1 ≡ 0
     → next st b ≡ passedOn (itemFault (hold st b)) (hold st b)
 unfolding next settled
 next-complete st b h m =
