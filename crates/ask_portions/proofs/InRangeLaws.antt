@@ -3,9 +3,12 @@
 --     Bounded             the numbers of a state that events repeat are within their types
 --     shows-in-range      the events of bytes from a bounded state on
 use Prim.Native.Nat.{ℕ, _+_, _-_, _/_, _^_, _<_}
-use mathlib.Core.List.{List, [], _∷_, map}
+use mathlib.Core.Path.{_≡_}
+use mathlib.Core.Bool.{Bool, cond}
+use mathlib.Core.List.{List, [], _∷_, _++_, map}
 use native.Mathlib.Nat.{mod-lt}
 use native.Mathlib.Omega.{arith}
+use lib.ListN.{take}
 use lib.Dec.{eqb, lit<}
 use Rattle.laws.proofs.Tests.{either, both}
 use Rattle.def_refusals.specs.declared.Checked.{Checked}
@@ -13,21 +16,25 @@ use Rattle.def_refusals.specs.declared.Checked.the-variants.{Fine, Unfit}
 use Rattle.def_wire.specs.declared.Kind.the-variants.{Spans, Clock, Echoes}
 use Rattle.def_wire.specs.declared.KindOr.{KindOr}
 use Rattle.def_wire.specs.declared.KindOr.the-variants.{AKind, NoKind}
+use Rattle.def_wire.specs.declared.Fields.{Fields}
 use Rattle.def_wire.specs.Bytes.{four}
 use Rattle.def_wire.specs.Packet.{announcedOf}
 use Rattle.def_wire.specs.Block.{typeOf, blockLength, kindOf, receiptType}
+use Rattle.def_standard.specs.Chunks.{coversOf, valuesIn}
 use Rattle.def_standard.specs.Range.{numberOf}
-use Rattle.def_portions.specs.declared.Event.the-variants.{Ranged as RangedStart, Number}
-use Rattle.range.specs.Steps.{onward}
+use Rattle.def_portions.specs.declared.Event.{Event}
+use Rattle.def_portions.specs.declared.Event.the-variants.{Ranged as RangedStart, Number, Start}
+use Rattle.range.specs.Steps.{stepOf, onward}
 use Rattle.ones.specs.Along.{along}
 use Rattle.states.specs.declared.Known.{Known}
 use Rattle.states.specs.declared.Portions.{Portions}
 use Rattle.states.specs.declared.Lone.{Lone}
+use Rattle.states.specs.declared.Lone.the-variants.{One, Nothing}
 use Rattle.states.specs.Steps.{head, sender, block, fields, word, time, whose, echo, clock, over}
-use Rattle.states.specs.Steps.{hold, known, typeIn, thinningIn, low16, low32, high32, fieldsIn}
+use Rattle.states.specs.Steps.{start, hold, known, typeIn, thinningIn, low16, low32, high32, fieldsIn}
 use Rattle.states.specs.Steps.{itemFault, nextBlock, opened, openedBy, inBlock, ranged, moved, inPacket}
 use Rattle.states.specs.Steps.{passed, passedOn, startIn, loneOf, listOf, shownBy, endIn, shownOn}
-use Rattle.states.specs.Steps.{settled, settledEvents, next, eventsAt, shows}
+use Rattle.states.specs.Steps.{settled, settledEvents, next, eventsAt, after, shows}
 use Rattle.steps.proofs.BytesLaws.{fields-held}
 use Rattle.event_lists.specs.Parts.{InRange, inHeader, inStart, inRanged, inNumber, inPair, inEntry, inTime, inEnd}
 use Rattle.event_lists.specs.Parts.{AllInRange, noneLeft, inBoth}
