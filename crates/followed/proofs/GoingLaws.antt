@@ -71,10 +71,10 @@ module _ (announced n : ℕ) where
         let l = blockLength (four w) in
         let b = good-block (c .behind + 4) (four w) (rw i at f) in
         let k = known (c .known .announced) w 0 0 0 in
-        let o = kind-onward (kindOf (typeOf (four w))) k l (c .behind - (l - 4)) (g .length) (b .rule) (omega arith) (omega arith) in
+        let left = c .behind - (l - 4) in
         rw i
-        (going-onward (l - 4) (c .behind - (l - 4)) _ (omega (arith, g .all, b .fits)) (omega (arith, g .fours, b .fits))
-        o)
+        (going-onward (l - 4) left _ (omega (arith, g .all, b .fits)) (omega (arith, g .fours, b .fits))
+        (kind-onward (kindOf (typeOf (four w))) k l left (g .length) (b .rule) (omega arith) (omega arith)))
     passed-by (in-block o) =
         going-onward (c .rest) (c .behind) (passed c) (omega (arith, g .all)) (g .fours)
         (item-onward c (g .length) o)

@@ -95,10 +95,12 @@ module _ (c : Portions) where
   item-onward e (at-time i r) = onward (moved (c .known) 1) time 4 e (times-begin r) (rw i)
   item-onward e (at-whose i r) =
       onward (sent (low32 (c .held))) echo 8 e
-      (λ (s : 0 < c .rest). record { some = omega arith; fits = omega arith; shape = at-echo refl (omega arith) }) (rw i)
+      (λ (s : 0 < c .rest). record { some = omega arith; fits = omega arith; shape = at-echo refl (omega arith) })
+      (rw i)
   item-onward e (at-echo i r) =
       onward (sent 0) whose 4 e
-      (λ (s : 0 < c .rest). record { some = omega arith; fits = omega arith; shape = at-whose refl (omega arith) }) (rw i)
+      (λ (s : 0 < c .rest). record { some = omega arith; fits = omega arith; shape = at-whose refl (omega arith) })
+      (rw i)
   item-onward e (at-clock i r) =
       onward (c .known) skipped (c .rest) e (λ (s : 0 < c .rest). absurd (omega arith)) (rw i)
   item-onward e (at-skipped i r) =

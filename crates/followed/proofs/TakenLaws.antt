@@ -22,7 +22,8 @@ use Rattle.states.specs.Call.{announcedBy, takenIn}
 use Rattle.states.proofs.RunLaws.{after-closed}
 use Rattle.followed.proofs.ItemRun.{not-zero}
 use Rattle.followed.proofs.InnerLaws.{at-fields, at-word, at-time, at-whose, at-echo, at-clock, at-skipped}
-use Rattle.followed.proofs.GoingLaws.{Item, at-sender, at-block, in-block, Counts, Going, asks, ended, passed-by}
+use Rattle.followed.proofs.GoingLaws.{Item, at-sender, at-block, in-block, Counts, Going, asks, ended}
+use Rattle.followed.proofs.GoingLaws.{passed-by}
 
 -- one byte of an item that asks for it
 held : {announced n : ℕ} (st : Portions) (b : ℕ) → 0 < st .missing → Counts announced n st
