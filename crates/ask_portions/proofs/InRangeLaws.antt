@@ -112,7 +112,10 @@ announced-lt w = omega arith
 
 nextBlock-in : (k : Known) (n : ℕ) → BoundedIn k → Bounded (nextBlock k n)
 unfolding nextBlock
-nextBlock-in k n b = both Bounded (eqb n 0) (λ t. b) (λ t. b)
+nextBlock-in k n b =
+    let c : BoundedIn (known (k .announced) 0 0 0 0) =
+    record { announced = b .announced; whose = omega arith; next = omega arith } in
+    both Bounded (eqb n 0) (λ t. c) (λ t. c)
 
 opened-in : (k : Known) (rest behind item size : ℕ) → BoundedIn k → Bounded (opened k rest behind item size)
 unfolding opened

@@ -32,10 +32,10 @@ module _ (k : Known) (behind a b c d : ℕ) (y : Bytes (header a b c d)) (x : Li
   abbrev size : ℕ
   size = blockLength hd - 4
 
-  back : four (low32 (heldOver block 0 hd)) ≡ hd
+  pub back : four (low32 (heldOver block 0 hd)) ≡ hd
   back = held-back block refl hd refl y
 
-  fault-held : itemFault (whole block 4 0 behind k hd) ≡ blockFault (behind + 4) hd
+  pub fault-held : itemFault (whole block 4 0 behind k hd) ≡ blockFault (behind + 4) hd
   fault-held = ap (blockFault (behind + 4)) back
 
   -- the start and what is behind it, by the first four bytes as a number and as a list

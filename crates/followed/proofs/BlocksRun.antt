@@ -16,10 +16,10 @@ use Rattle.def_wire.specs.Packet.{lengthAt, part}
 use Rattle.def_wire.specs.Block.{blockLength}
 use Rattle.def_portions.specs.Events.{quiet, then, unless, blockFault, blockEvents, blocksFrom}
 use Rattle.states.specs.declared.Known.{Known}
-use Rattle.states.specs.Steps.{state, block, known, nextBlock}
+use Rattle.states.specs.Steps.{state, block, nextBlock}
 use Rattle.followed.specs.Run.{runOf, opening, ending}
 use Rattle.followed.proofs.ItemRun.{item-open}
-use Rattle.followed.proofs.BehindRun.{next-over, next-block, ending-open, ending-done}
+use Rattle.followed.proofs.BehindRun.{bare, next-over, next-block, ending-open, ending-done}
 use Rattle.followed.proofs.ValueLaws.{bytes-drop}
 use Rattle.followed.proofs.CheckLaws.{Good, good-block}
 use Rattle.followed.proofs.BlockRun.{block-run}
@@ -67,7 +67,7 @@ module _ (s : List ℕ) (y : Bytes s) (stop : ℕ) (within : length s ≤ stop) 
         (λ t. let u : at + blockLength v ≤ length s = ltb-false _ _ t in
         ending-done (k .announced) n (behind - 4 - n) (drop 4 v) (omega arith)
         ∙ (rw (q, r)
-        (further (at + blockLength v) (behind - blockLength v) (known (k .announced) 0 0 0 0) (omega (arith, g .fits))
+        (further (at + blockLength v) (behind - blockLength v) (bare k) (omega (arith, g .fits))
         (omega (arith, g .fits)) u (omega arith))))
 
     block-at : (f : Checked) → blockFault behind v ≡ f
@@ -101,6 +101,6 @@ module _ (s : List ℕ) (y : Bytes s) (stop : ℕ) (within : length s ≤ stop) 
       (next-block k behind (drop at s) (omega arith)
       ∙ either (ltb (length s) (at + 4))
       (λ t. let u : length s < at + 4 = ltb-true _ _ t in
-      rw t (item-open block 4 0 (behind - 4) k (drop at s) (omega (arith, length-drop at s))))
+      rw t (item-open block 4 0 (behind - 4) (bare k) (drop at s) (omega (arith, length-drop at s))))
       (λ g. let u : at + 4 ≤ length s = ltb-false _ _ g in
-      rw g (block-at fuel at behind k e m u h (blocks fuel) (blockFault behind (drop at s)) refl)))))
+      rw g (block-at fuel at behind (bare k) e m u h (blocks fuel) (blockFault behind (drop at s)) refl)))))

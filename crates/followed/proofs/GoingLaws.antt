@@ -1,39 +1,30 @@
 -- The bytes that a state still asks for are those of the packet that have not come. Assumes nothing of the bytes.
---     Item          what an item leaves of its block, so that the items behind it fill the block
+--     Item          what an item leaves of its block
 --     Counts        n bytes of the packet have come, and an item is at hand
 --     Going         the same of a state that was not refused: it asks for bytes, or the packet has ended
 --     passed-by     it is so behind a complete item that shows no refusal
-use Prim.Native.Nat.{ℕ, _+_, _-_, _%_, _≤_, _<_}
+use Prim.Native.Nat.{ℕ, _+_, _-_, _%_, _<_}
 use mathlib.Core.Path.{_≡_, refl}
 use native.Mathlib.Omega.{arith}
 use lib.ListN.{length}
-use lib.Dec.{leb, eqb}
-use borrow.Author.Tests.{eqb-true, eqb-false, leb-true}
-use Rattle.laws.proofs.Tests.{either, both}
+use lib.Dec.{eqb}
+use borrow.Author.Tests.{eqb-true, eqb-false}
+use Rattle.laws.proofs.Tests.{either}
 use Rattle.def_refusals.specs.declared.Checked.the-variants.{Fine}
-use Rattle.def_wire.specs.declared.Kind.the-variants.{Spans, Clock, Echoes}
-use Rattle.def_wire.specs.declared.KindOr.{KindOr}
-use Rattle.def_wire.specs.declared.KindOr.the-variants.{AKind, NoKind}
 use Rattle.def_wire.specs.Bytes.{four}
-use Rattle.def_wire.specs.Block.{typeOf, blockLength, kindOf, standardRule, receiptType, nextFit}
-use Rattle.def_portions.specs.Events.{ruleOf}
+use Rattle.def_wire.specs.Block.{typeOf, blockLength, kindOf}
 use Rattle.states.specs.declared.Known.{Known}
 use Rattle.states.specs.declared.Portions.{Portions}
-use Rattle.states.specs.Steps.{sender, block, fields, word, time, whose, echo, clock, skipped, over, known}
-use Rattle.states.specs.Steps.{low32, typeIn, ranged, itemFault, nextBlock, opened, openedBy, inBlock, passed}
-use Rattle.followed.proofs.CheckLaws.{rule-fine, good-block}
+use Rattle.states.specs.Steps.{sender, block, over, known}
+use Rattle.states.specs.Steps.{low32, itemFault, nextBlock, opened, inBlock, passed}
+use Rattle.followed.proofs.CheckLaws.{good-block}
+use Rattle.followed.proofs.InnerLaws.{Inner, Onward, onward, kind-onward, item-onward}
 
--- what an item leaves of its block, so that the items behind it fill the block
+-- what an item leaves of its block: behind the SSRC, and behind a block's first four bytes, nothing
 pub data Item (item rest : ℕ) : Type 0 where
   at-sender : item ≡ sender → rest ≡ 0 → Item item rest
   at-block : item ≡ block → rest ≡ 0 → Item item rest
-  at-fields : item ≡ fields → rest % 4 ≡ 0 → Item item rest
-  at-word : item ≡ word → rest % 2 ≡ 0 → Item item rest
-  at-time : item ≡ time → rest % 4 ≡ 0 → Item item rest
-  at-whose : item ≡ whose → rest % 12 ≡ 8 → Item item rest
-  at-echo : item ≡ echo → rest % 12 ≡ 0 → Item item rest
-  at-clock : item ≡ clock → rest ≡ 0 → Item item rest
-  at-skipped : item ≡ skipped → rest ≡ 0 → Item item rest
+  in-block : Inner item rest → Item item rest
 
 -- n bytes of a packet have come, and an item is at hand that may be complete
 pub record Counts (announced n : ℕ) (st : Portions) : Type 0 where
@@ -47,12 +38,6 @@ pub data Going (announced n : ℕ) (st : Portions) : Type 0 where
   ended : st .item ≡ over → st .known .announced ≡ announced → st .behind + st .rest + st .missing ≡ 0
       → n ≡ announced → Going announced n st
 
--- an item of which bytes are missing, where the block has bytes left for it
-record Begins (item size rest : ℕ) : Type 0 where
-  pub some : 0 < size
-  pub fits : size ≤ rest
-  pub shape : Item item (rest - size)
-
 module _ (announced n : ℕ) where
   going-next : (k : Known) (behind : ℕ) → k .announced ≡ announced → behind + n ≡ announced → behind % 4 ≡ 0
       → Going announced n (nextBlock k behind)
@@ -64,76 +49,32 @@ module _ (announced n : ℕ) where
       rw f (asks (omega arith)
       (record { length = e; all = omega arith; fours = omega arith; shape = at-block refl refl })))
 
-  going-opened : (k : Known) (rest behind item size : ℕ) → k .announced ≡ announced → behind + rest + n ≡ announced
-      → behind % 4 ≡ 0 → (0 < rest → Begins item size rest) → Going announced n (opened k rest behind item size)
+  going-onward : (rest behind : ℕ) (st : Portions) → behind + rest + n ≡ announced → behind % 4 ≡ 0
+      → Onward announced rest behind st → Going announced n st
   unfolding opened
-  going-opened k rest behind item size e a m b =
-      either (eqb rest 0)
+  going-onward rest behind st a m (onward k item size e b i) =
+      rw i
+      (either (eqb rest 0)
       (λ t. let z : rest ≡ 0 = eqb-true _ _ t in rw t (going-next k behind e (omega arith) m))
       (λ f. let z : rest ≡ 0 → ⊥ = eqb-false _ _ f in
       let c = b (omega arith) in
       rw f (asks (c .some)
-      (record { length = e; all = omega (arith, c .fits); fours = m; shape = c .shape })))
-
-  -- behind a block's first four bytes, by its kind
-  going-kind : (kd : KindOr) (k : Known) (l behind : ℕ) → ruleOf kd l ≡ Fine → l % 4 ≡ 0 → 4 ≤ l → l ≤ behind + 4
-      → k .announced ≡ announced → behind + n ≡ announced → behind % 4 ≡ 0
-      → Going announced n (openedBy kd k (l - 4) (behind - (l - 4)))
-  unfolding standardRule
-  going-kind (AKind (Spans g)) k l behind f d h j e a m =
-      let r : 12 ≤ l = leb-true _ _ (rule-fine (leb 12 l) 12 l f) in
-      going-opened k (l - 4) (behind - (l - 4)) fields 8 e (omega arith) (omega arith)
-      (λ s. record { some = omega arith; fits = omega arith; shape = at-fields refl (omega arith) })
-  going-kind (AKind Clock) k l behind f d h j e a m =
-      let r : l ≡ 12 = eqb-true _ _ (rule-fine (eqb l 12) 12 l f) in
-      going-opened k (l - 4) (behind - (l - 4)) clock 8 e (omega arith) (omega arith)
-      (λ s. record { some = omega arith; fits = omega arith; shape = at-clock refl (omega arith) })
-  going-kind (AKind Echoes) k l behind f d h j e a m =
-      let r : (l - 4) % 12 ≡ 0 = eqb-true _ _ (rule-fine (eqb ((l - 4) % 12) 0) (nextFit l) l f) in
-      going-opened k (l - 4) (behind - (l - 4)) whose 4 e (omega arith) (omega arith)
-      (λ (s : 0 < l - 4). record { some = omega arith; fits = omega arith; shape = at-whose refl (omega arith) })
-  going-kind NoKind k l behind f d h j e a m =
-      going-opened k (l - 4) (behind - (l - 4)) skipped (l - 4) e (omega arith) (omega arith)
-      (λ s. record { some = s; fits = omega arith; shape = at-skipped refl (omega arith) })
+      (record { length = e; all = omega (arith, c .fits); fours = m; shape = in-block (c .shape) }))))
 
   -- behind a complete item
   module _ (c : Portions) (g : Counts announced n c) (z : c .missing ≡ 0) (f : itemFault c ≡ Fine) where
-    -- its own block's next item
-    onward : (k : Known) (item size : ℕ) → k .announced ≡ announced → (0 < c .rest → Begins item size (c .rest))
-        → Going announced n (opened k (c .rest) (c .behind) item size)
-    onward k item size e b = going-opened k (c .rest) (c .behind) item size e (omega (arith, g .all)) (g .fours) b
-
-    last : c .rest ≡ 0 → Going announced n (opened (c .known) (c .rest) (c .behind) skipped (c .rest))
-    last r = onward (c .known) skipped (c .rest) (g .length) (λ (s : 0 < c .rest). absurd (omega arith))
-
     pub passed-by : Item (c .item) (c .rest) → Going announced n (passed c)
-    unfolding passed inBlock ranged
+    unfolding passed inBlock
     passed-by (at-sender i r) = rw i (going-next (c .known) (c .behind) (g .length) (omega (arith, g .all)) (g .fours))
     passed-by (at-block i r) =
         let w = low32 (c .held) in
+        let l = blockLength (four w) in
         let b = good-block (c .behind + 4) (four w) (rw i at f) in
         let k = known (c .known .announced) w 0 0 0 in
+        let left = c .behind - (l - 4) in
         rw i
-        (going-kind (kindOf (typeOf (four w))) k (blockLength (four w)) (c .behind)
-        (b .rule) (omega arith) (omega arith) (b .fits) (g .length) (omega (arith, g .all)) (g .fours))
-    passed-by (at-fields i r) =
-        let k = ranged (c .known) (c .held) in
-        rw i (both (λ st. Going announced n st) (eqb (typeIn (c .known)) receiptType)
-        (λ _. onward k time 4 (g .length)
-        (λ (s : 0 < c .rest). record { some = omega arith; fits = omega arith; shape = at-time refl (omega arith) }))
-        (λ _. onward k word 2 (g .length)
-        (λ (s : 0 < c .rest). record { some = omega arith; fits = omega arith; shape = at-word refl (omega arith) })))
-    passed-by (at-word i r) =
-        rw i (onward _ word 2 (g .length)
-        (λ (s : 0 < c .rest). record { some = omega arith; fits = omega arith; shape = at-word refl (omega arith) }))
-    passed-by (at-time i r) =
-        rw i (onward _ time 4 (g .length)
-        (λ (s : 0 < c .rest). record { some = omega arith; fits = omega arith; shape = at-time refl (omega arith) }))
-    passed-by (at-whose i r) =
-        rw i (onward _ echo 8 (g .length)
-        (λ (s : 0 < c .rest). record { some = omega arith; fits = omega arith; shape = at-echo refl (omega arith) }))
-    passed-by (at-echo i r) =
-        rw i (onward _ whose 4 (g .length)
-        (λ (s : 0 < c .rest). record { some = omega arith; fits = omega arith; shape = at-whose refl (omega arith) }))
-    passed-by (at-clock i r) = rw i (last r)
-    passed-by (at-skipped i r) = rw i (last r)
+        (going-onward (l - 4) left _ (omega (arith, g .all, b .fits)) (omega (arith, g .fours, b .fits))
+        (kind-onward (kindOf (typeOf (four w))) k l left (g .length) (b .rule) (omega arith) (omega arith)))
+    passed-by (in-block o) =
+        going-onward (c .rest) (c .behind) (passed c) (omega (arith, g .all)) (g .fours)
+        (item-onward c (g .length) o)

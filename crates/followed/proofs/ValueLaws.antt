@@ -50,6 +50,15 @@ by-four P f (a ∷ b ∷ c ∷ []) e = absurd (omega arith)
 by-four P f (a ∷ b ∷ c ∷ d ∷ []) e = f a b c d
 by-four P f (a ∷ b ∷ c ∷ d ∷ x ∷ s) e = absurd (omega arith)
 
+-- four, and others
+pub by-first : (P : List ℕ → Type 0) → ((a b c d : ℕ) (x : List ℕ) → P (a ∷ b ∷ c ∷ d ∷ x)) → (s : List ℕ)
+    → 4 ≤ length s → P s
+by-first P f [] h = absurd (omega arith)
+by-first P f (a ∷ []) h = absurd (omega arith)
+by-first P f (a ∷ b ∷ []) h = absurd (omega arith)
+by-first P f (a ∷ b ∷ c ∷ []) h = absurd (omega arith)
+by-first P f (a ∷ b ∷ c ∷ d ∷ x) h = f a b c d x
+
 pub by-eight : (P : List ℕ → Type 0)
     → ((a b c d i j k l : ℕ) → P (a ∷ b ∷ c ∷ d ∷ i ∷ j ∷ k ∷ l ∷ [])) → (s : List ℕ) → length s ≡ 8 → P s
 by-eight P f s e =

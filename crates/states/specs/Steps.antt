@@ -127,9 +127,11 @@ itemFault st =
 unfoldable pub faultOf : Portions → Checked
 faultOf st = cond (eqb (st .missing) 0) (itemFault st) Fine
 
--- behind a block: the next one's first four bytes, or the end
+-- behind a block: the next one's first four bytes, or the end; of a block nothing is kept behind it
 unfoldable pub nextBlock : Known → ℕ → Portions
-nextBlock k behind = cond (eqb behind 0) (state over 0 0 0 0 k) (state block 4 0 0 (behind - 4) k)
+nextBlock k behind =
+    cond (eqb behind 0) (state over 0 0 0 0 (known (k .announced) 0 0 0 0))
+    (state block 4 0 0 (behind - 4) (known (k .announced) 0 0 0 0))
 
 -- the next item of a block, of so many bytes; behind its last one, the next block
 unfoldable pub opened : Known → ℕ → ℕ → ℕ → ℕ → Portions

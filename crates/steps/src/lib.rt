@@ -176,7 +176,7 @@ fn then_check(first: Checked, second: Checked) -> Checked
 }
 
 // What a block's first four bytes show, with so many bytes of the packet behind them: 6, 7.
-fn block_fault(behind: usize, w: u32) -> Checked
+pub fn block_fault(behind: usize, w: u32) -> Checked
     ensures { λ r. ⌜ r ≡ blockFault (behind + 4) (four w) ⌝ }
 {
     let length = length_of(w);
@@ -201,17 +201,24 @@ pub fn fault(st: Portions) -> Checked
     Checked::Fine
 }
 
-// Behind a block: the next one's first four bytes, or the packet's end.
-fn next_block(k: Known, behind: usize) -> Portions
+// Behind a block: the next one's first four bytes, or the packet's end. Of a block nothing is kept behind it.
+pub fn next_block(k: Known, behind: usize) -> Portions
     ensures { λ r. ⌜ r ≡ nextBlock k behind ⌝ }
 {
+    let bare = Known {
+        announced: k.announced,
+        block: 0,
+        whose: 0,
+        next: 0,
+        inside: 0,
+    };
     if behind == 0 {
         return Portions {
             held: 0,
             missing: 0,
             rest: 0,
             behind: 0,
-            known: k,
+            known: bare,
             item: states::OVER,
         };
     }
@@ -220,7 +227,7 @@ fn next_block(k: Known, behind: usize) -> Portions
         missing: 4,
         rest: 0,
         behind: utils::above(behind, 4),
-        known: k,
+        known: bare,
         item: states::BLOCK,
     }
 }
