@@ -76,6 +76,7 @@ fn piece(
         if !now.goes_on {
             return now;
         }
+        let next = at + 1;
         let st = now.state;
         now = one(
             st,
@@ -86,7 +87,7 @@ fn piece(
             buf,
             now.at,
         );
-        at += 1;
+        at = next;
     }
     now
 }
@@ -103,6 +104,63 @@ fn ended(inside: bool, got: isize) {
     }
 }
 
+// What a refused packet comes to.
+fn lost() {
+    io::write_all(
+        STDERR_FILENO,
+        b"xrfollow: the packet is refused, and where the next one begins is not known\n",
+    );
+}
+
+// The lines of the bytes that a read gave; none at the input's end.
+fn told(
+    c: Course,
+    got: isize,
+    x: &[u8],
+    tags: &mut [u64],
+    numbers: &mut [u16],
+    values: &mut [u64],
+    buf: &mut [u8],
+) -> Course {
+    if x.len() == 0 {
+        ended(c.inside, got);
+        let s = c.state;
+        return Course {
+            state: s,
+            inside: false,
+            goes_on: false,
+            at: 0,
+        };
+    }
+    let d = piece(c, x, tags, numbers, values, buf);
+    let at = print::flush(buf, d.at);
+    if !d.goes_on {
+        lost();
+    }
+    let s = d.state;
+    Course {
+        state: s,
+        inside: d.inside,
+        goes_on: d.goes_on,
+        at,
+    }
+}
+
+// One read, and the lines of its bytes.
+fn turn(
+    c: Course,
+    input: &mut [u8],
+    tags: &mut [u64],
+    numbers: &mut [u16],
+    values: &mut [u64],
+    buf: &mut [u8],
+) -> Course {
+    let got = libc::read(STDIN_FILENO, input);
+    let n = io::count(got, input);
+    told(c, got, utils::part(input, 0, n), tags, numbers, values, buf)
+}
+
+// As many reads as the input has.
 fn run(
     input: &mut [u8],
     tags: &mut [u64],
@@ -118,19 +176,8 @@ fn run(
         at: 0,
     };
     while 0 < left {
-        let got = libc::read(STDIN_FILENO, input);
-        let n = io::count(got, input);
-        if n == 0 {
-            ended(c.inside, got);
-            return;
-        }
-        c = piece(c, &input[..n], tags, numbers, values, buf);
-        c.at = print::flush(buf, c.at);
+        c = turn(c, input, tags, numbers, values, buf);
         if !c.goes_on {
-            io::write_all(
-                STDERR_FILENO,
-                b"xrfollow: the packet is refused, and where the next one begins is not known\n",
-            );
             return;
         }
         left -= 1;
