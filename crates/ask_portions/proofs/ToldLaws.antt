@@ -1,18 +1,16 @@
 -- One call on a state: its events read back from the lists, and its lines. Assumes nothing.
 --     given-count, given-most     how many events it lists, and that there is room for them
---     told-fine, told-unfit       where the lines of what stands in the lists were added, and the line behind them
+--     telling                     the contract, where its events' lines were added, and the line behind them
 use Prim.Native.Nat.{ℕ, _+_, _≤_}
 use mathlib.Core.Path.{_≡_, refl, ap, _∙_}
 use mathlib.Core.List.{List, _++_}
 use native.Mathlib.Omega.{arith}
 use lib.ListN.{length}
-use Rattle.def_refusals.specs.declared.Refusal.{Refusal}
 use Rattle.def_refusals.specs.declared.Checked.{Checked}
 use Rattle.def_refusals.specs.declared.Checked.the-variants.{Fine, Unfit}
 use Rattle.def_questions.specs.Questions.{least3}
 use Rattle.def_portions.specs.declared.Event.{Event}
-use Rattle.def_dump.specs.Lines.{refusalLine}
-use Rattle.def_dump.specs.EventLines.{eventLines, givenLine}
+use Rattle.def_dump.specs.EventLines.{eventLines}
 use Rattle.def_probe.specs.Requests.{endingOf}
 use Rattle.states.specs.declared.Portions.{Portions}
 use Rattle.states.specs.declared.Followed.{Followed}
@@ -69,33 +67,18 @@ module _ {st : Portions} {x t u v : List ℕ} {r : Followed} {t1 u1 v1 : List �
       laid-back (given-in-range st x (least3 t u v) b) (omega (arith, m)) (omega (arith, m)) (omega (arith, m))
       (record { tags = f .tags; numbers = f .numbers; values = f .values; past = p })
 
-  -- what is behind them, by the refusal
-  ending : (c : Checked) → r .refusal ≡ c
-      → eventLines (eventsIn t1 u1 v1 (r .events)) ++ endingOf c (length x) (r .events) ≡ toldOf st x (least3 t u v)
+  -- the lines of what stands in the lists, and the line behind them
+  lines : eventLines (eventsIn t1 u1 v1 (r .events)) ++ endingOf (r .refusal) (length x) (r .events)
+      ≡ toldOf st x (least3 t u v)
   unfolding toldOf
-  ending c e =
-      let a = ap (λ (a : Followed). a .refusal) (f .answer) in
-      rw (listed, ← e, a, counted)
+  lines = rw (listed, counted, f .answer)
 
-  -- the whole contract, behind the two texts
-  telling : (c : Checked) → r .refusal ≡ c → {l m l1 : List ℕ} {at j k : ℕ}
-      → Added l at (eventLines (eventsIn t1 u1 v1 (r .events))) m j
-      → Added m j (endingOf c (length x) (r .events)) l1 k
+  pub telling : {l m l1 : List ℕ} {at j k : ℕ} → Added l at (eventLines (eventsIn t1 u1 v1 (r .events))) m j
+      → Added m j (endingOf (r .refusal) (length x) (r .events)) l1 k
       → Telling st x (least3 t u v) l at (record { state = r .state; taken = r .taken; at = k }) l1
-  telling c e p q =
+  telling p q =
       record {
         state = ap (λ (a : Followed). a .state) (f .answer);
         taken = ap (λ (a : Followed). a .taken) (f .answer);
-        text = reads (ending c e) (and-then p q);
+        text = reads lines (and-then p q);
       }
-
-  pub told-fine : r .refusal ≡ Fine → {l m l1 : List ℕ} {at j k : ℕ}
-      → Added l at (eventLines (eventsIn t1 u1 v1 (r .events))) m j
-      → Added m j (givenLine (length x) (r .events)) l1 k
-      → Telling st x (least3 t u v) l at (record { state = r .state; taken = r .taken; at = k }) l1
-  told-fine e p q = telling Fine e p q
-
-  pub told-unfit : {y : Refusal} → r .refusal ≡ Unfit y → {l m l1 : List ℕ} {at j k : ℕ}
-      → Added l at (eventLines (eventsIn t1 u1 v1 (r .events))) m j → Added m j (refusalLine y) l1 k
-      → Telling st x (least3 t u v) l at (record { state = r .state; taken = r .taken; at = k }) l1
-  told-unfit {y} e p q = telling (Unfit y) e p q

@@ -6,7 +6,7 @@ ghost use mathlib.Core.List.{[]};
 ghost use Rattle.def_questions.specs.Questions.{least3};
 ghost use Rattle.def_text.specs.Buffer.{Added};
 ghost use Rattle.def_dump.specs.EventLines.{givenLine};
-ghost use Rattle.def_probe.specs.Requests.{sizesAt, callsText, portionsText};
+ghost use Rattle.def_probe.specs.Requests.{endingOf, sizesAt, callsText, portionsText};
 ghost use Rattle.ask_portions.specs.Told.{Telling};
 use def_refusals::Checked;
 use states::Portions;
@@ -30,6 +30,16 @@ fn given_line(buf: &mut [u8], at: usize, given: usize, events: usize) -> usize
     print::line_end(buf, m)
 }
 
+// What stands behind a call's events: what it took and listed, or why it is refused.
+fn ending(buf: &mut [u8], at: usize, c: Checked, given: usize, events: usize) -> usize
+    ensures { λ r. ⌜ Added (now (buf .entry)) at (endingOf c given events) (now (buf .exit)) r ⌝ }
+{
+    match c {
+        Checked::Fine => given_line(buf, at, given, events),
+        Checked::Unfit(y) => lines::refusal_line(buf, at, y),
+    }
+}
+
 // One call: its events, then what it took or why it is refused.
 fn one(
     st: Portions,
@@ -46,19 +56,12 @@ fn one(
 {
     let r = portions::follow(st, x, tags, numbers, values);
     let n = event_lines::event_lines(buf, at, tags, numbers, values, r.events);
-    let s = r.state;
-    let c = r.refusal;
-    match c {
-        Checked::Fine => Told {
-            state: s,
-            taken: r.taken,
-            at: given_line(buf, n, x.len(), r.events),
-        },
-        Checked::Unfit(y) => Told {
-            state: s,
-            taken: r.taken,
-            at: lines::refusal_line(buf, n, y),
-        },
+    let state = r.state;
+    let refusal = r.refusal;
+    Told {
+        state,
+        taken: r.taken,
+        at: ending(buf, n, refusal, x.len(), r.events),
     }
 }
 
@@ -84,15 +87,8 @@ fn calls_into(
     let mut i: usize = 0;
     while i < n {
         let size = little_endian::u32_from_le_bytes(p, 6 + 4 * i) as usize;
-        let t = one(
-            st,
-            utils::part(x, from, size),
-            tags,
-            numbers,
-            values,
-            buf,
-            to,
-        );
+        let y = utils::part(x, from, size);
+        let t = one(st, y, tags, numbers, values, buf, to);
         st = t.state;
         from += t.taken;
         to = t.at;

@@ -1,8 +1,8 @@
 -- Which reply a request has: by the kind, by the asked type, and by what else is tested.
 --     reading-standard .. chunk-vector     what a byte of the payload asks
---     shown-time .. word-long              what is told of kinds 3, 2 and 7, and when these are cut
+--     shown-time .. portions-told          what is told of kinds 3, 2, 7 and 12, and when these are cut
 --     kind-1 .. kind-other                 the reply of each kind
-use Prim.Native.Nat.{ℕ, _≤_, _<_}
+use Prim.Native.Nat.{ℕ, _+_, _*_, _≤_, _<_}
 use mathlib.Core.Path.{_≡_, sym, _∙_}
 use mathlib.Core.Bool.{true}
 use mathlib.Core.List.{List}
@@ -15,11 +15,11 @@ use Rattle.def_standard.specs.declared.Chunk.the-variants.{Null, Skip, Run, Vec
 use Rattle.def_questions.specs.Packets.{timeAsked}
 use Rattle.def_questions.specs.ByNumber.{fieldsBy}
 use Rattle.def_jobs.specs.declared.Layout.the-variants.{Plain, Careful}
-use Rattle.def_jobs.specs.Jobs.{le32}
+use Rattle.def_jobs.specs.Jobs.{le16, le32}
 use Rattle.def_probe.specs.Requests.{told, cut, readingFirst, chunkAsked, fieldsTold, timeTold, shownText, madeText}
 use Rattle.def_probe.specs.Requests.{numbersText, pairsText, entriesText, typedReply, dumpReply, listReply, shownReply}
 use Rattle.def_probe.specs.Requests.{stretchReply, writtenReply, madeReply, parsedReply, wordsReply, marksReply}
-use Rattle.def_probe.specs.Requests.{viewReply, portionsReply, numbersReply, answerTo}
+use Rattle.def_probe.specs.Requests.{viewReply, portionsText, portionsReply, numbersReply, answerTo}
 use Rattle.probe.specs.Replied.{beginsWell}
 use Rattle.probe.proofs.ReplyLaws.{begun}
 
@@ -99,6 +99,20 @@ module _ (p : List ℕ) where
   pub word-long : (length p ≡ 9 → ⊥) → cut ≡ madeReply p
   unfolding madeReply
   word-long h = rw (ne-eqb _ _ h)
+
+module _ (p : List ℕ) where
+  pub portions-short : length p < 6 → cut ≡ portionsReply p
+  unfolding portionsReply
+  portions-short h = rw (lt-leb _ _ h)
+
+  module _ (n : ℕ) (h : 6 ≤ length p) (e : n ≡ le16 p 4) where
+    pub portions-cut : length p < 6 + 4 * n → cut ≡ portionsReply p
+    unfolding portionsReply
+    portions-cut f = rw (le-leb _ _ h, lt-leb _ _ (rw e at f))
+
+    pub portions-told : 6 + 4 * n ≤ length p → told (portionsText p) ≡ portionsReply p
+    unfolding portionsReply
+    portions-told f = rw (le-leb _ _ h, le-leb _ _ (rw e at f))
 
 module _ (kind : ℕ) (p : List ℕ) where
   pub kind-1 : kind ≡ 1 → dumpReply p ≡ answerTo kind p
