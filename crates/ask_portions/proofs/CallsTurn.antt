@@ -113,13 +113,14 @@ module _ (p : List ℕ) (n : ℕ) (x t u v l : List ℕ) (at : ℕ) where
           ∙ last-text bytes (least3 t u v) (w .reached) (rw e at z) ∙ sym (append-nil _))
           (k .text) (w .text))
 
--- the request's text: so much room in each list, and the bytes behind the sizes
+-- a part of a list from its front on, and the least room of three that have the same
 part-length : (l : List ℕ) (m : ℕ) → m ≤ length l → length (take (m - 0) l) ≡ m
 part-length l m h = length-take (m - 0) l ∙ omega arith
 
 least-same : (m : ℕ) → min (min m m) m ≡ m
 least-same m = omega arith
 
+-- the request's text: so much room in each list, and the bytes behind the sizes
 pub request-text : (p y t u v : List ℕ) (n m : ℕ) → n ≡ le16 p 4 → m ≡ listRoom p 0 → m ≤ length t → m ≤ length u
     → m ≤ length v → y ≡ take (length p) (drop (6 + 4 * n) p)
     → callsText (least3 (take (m - 0) t) (take (m - 0) u) (take (m - 0) v)) [] y (sizesAt p 6 n) ≡ portionsText p

@@ -80,7 +80,8 @@ unfolding loneOf
 lone-in st b =
     let k = st .known in
     both LoneIn (eqb (st .item) sender) (λ t. inBoth (inHeader (b .announced) (omega arith)) noneLeft)
-    (λ t. both LoneIn (eqb (st .item) block) (λ t. start-in (kindOf (typeOf (four (low32 (st .held))))) (low32 (st .held)))
+    (λ t. both LoneIn (eqb (st .item) block)
+    (λ t. start-in (kindOf (typeOf (four (low32 (st .held))))) (low32 (st .held)))
     (λ t. both LoneIn (eqb (st .item) fields)
     (λ t. inBoth (fields-in k (st .held) _ _ (type-lt (k .block)) (length-lt (k .block))) noneLeft)
     (λ t. both LoneIn (eqb (st .item) time)

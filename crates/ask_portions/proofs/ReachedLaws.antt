@@ -49,7 +49,8 @@ module _ (b y : List ℕ) where
   unfolding callOf
   takes room =
       let s = b ++ y in
-      takes-by (courseOf b .fault) (thenCheck (pastFault s) (roomFault (added b s) room)) (added b s) (courseOf s .fault)
+      takes-by (courseOf b .fault) (thenCheck (pastFault s) (roomFault (added b s) room)) (added b s)
+      (courseOf s .fault)
 
 -- the state for the next call, where the first so many bytes of x were taken
 pub record Reached (x : List ℕ) (st : Portions) (from : ℕ) : Type 0 where

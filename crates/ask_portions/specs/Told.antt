@@ -17,7 +17,8 @@ toldOf st x room =
     eventLines (givenOf st x room) ++ endingOf (followedOf st x room .refusal) (length x) (length (givenOf st x room))
 
 -- a call with the bytes x and so much room for events, where `at` bytes waited in the buffer l
-pub record Telling (st : Portions) (x : List ℕ) (room : ℕ) (l : List ℕ) (at : ℕ) (r : Told) (l′ : List ℕ) : Type 0 where
+pub record Telling (st : Portions) (x : List ℕ) (room : ℕ) (l : List ℕ) (at : ℕ) (r : Told) (l′ : List ℕ)
+    : Type 0 where
   pub state : r .state ≡ followedOf st x room .state
   pub taken : r .taken ≡ followedOf st x room .taken
   pub text : Added l at (toldOf st x room) l′ (r .at)

@@ -1,5 +1,5 @@
--- `ask_portions::calls` meets its contract: the sizes and the bytes behind them, and so much room in each list. Assumes
--- nothing.
+-- `ask_portions::calls` meets its contract: the sizes and the bytes behind them, and so much room in each list.
+-- Assumes nothing.
 use native.Mathlib.Omega.{arith}
 use borrow.Author.Needs.{needs}
 use Rattle.print.proofs.AddedLaws.{reads}

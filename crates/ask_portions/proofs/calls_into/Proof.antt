@@ -1,4 +1,4 @@
--- `ask_portions::calls_into` meets its contract: what was added so far and what is still to be added make up the whole.
+-- `ask_portions::calls_into` meets its contract: what was added so far and what is still to come make up the whole.
 -- Assumes nothing.
 use Prim.Native.Nat.{_-_}
 use native.Mathlib.Omega.{arith}
