@@ -6,7 +6,9 @@ use Prim.Native.Nat.{ℕ, _+_, _-_, _/_, _≤_, _<_, min}
 use mathlib.Core.Path.{_≡_, refl, sym, ap, _∙_}
 use mathlib.Core.List.{List, [], _∷_, map}
 use native.Mathlib.Omega.{arith}
-use lib.ListN.{length, drop, length-drop, length-map}
+use lib.ListN.{length, take, drop, length-drop, length-map}
+use lib.Seq.{take-all}
+use lib.Dec.{eqb}
 use borrow.Author.Tests.{le-leb, lt-leb}
 use Rattle.def_wire.specs.declared.Ranged.{Ranged}
 use Rattle.def_wire.specs.declared.Ranged.the-variants.{Chunks, Times}
@@ -15,16 +17,21 @@ use Rattle.def_wire.specs.declared.Kind.{Kind}
 use Rattle.def_wire.specs.declared.Kind.the-variants.{Spans, Clock, Echoes}
 use Rattle.def_wire.specs.declared.KindOr.{KindOr}
 use Rattle.def_wire.specs.declared.KindOr.the-variants.{AKind, NoKind}
-use Rattle.def_wire.specs.Bytes.{words32}
+use Rattle.def_wire.specs.declared.Fields.{Fields}
+use Rattle.def_wire.specs.Bytes.{words16, words32}
 use Rattle.def_wire.specs.Block.{typeOf, fieldsAt, timeAt, kindOf}
-use Rattle.def_standard.specs.Range.{rangeOf, numberOf}
-use Rattle.def_standard.specs.Standard.{standardNumbers, standardPairs, entriesOf}
+use Rattle.def_standard.specs.declared.Range.{Range}
+use Rattle.def_standard.specs.Range.{circle, rangeOf, numberOf}
+use Rattle.def_standard.specs.Standard.{numbersOf, standardWords, standardNumbers, standardPairs, entriesOf}
 use Rattle.def_portions.specs.declared.Event.{Event}
 use Rattle.def_portions.specs.declared.Event.the-variants.{Number, Pair, Entry, Time}
 use Rattle.def_portions.specs.Events.{listed, startOf, rangedOf, from, kindEvents, blockEvents}
 use Rattle.utils.proofs.BytesLaws.{length-words32}
 use Rattle.range.specs.Inside.{insideCount}
 use Rattle.range.specs.Steps.{stepOf}
+use Rattle.range.proofs.InsideLaws.{inside-count-le}
+use Rattle.laws.proofs.Tests.{both}
+use Rattle.ones.proofs.NumbersLaws.{length-numbers}
 use Rattle.packet_receipt_time.specs.Pairs.{stepped}
 use Rattle.packet_receipt_time.proofs.PairsLaws.{pairs-standard, first-all, first-stepped, length-stepped}
 
@@ -59,6 +66,26 @@ module _ (v : List ℕ) where
 
   pub from-enough : (n : ℕ) (es : List Event) → n ≤ length v → from n v es ≡ es
   from-enough n es h = rw (le-leb _ _ h)
+
+  -- ---- the numbers
+
+  -- the words are all that is behind the fields
+  pub numbers-found : {f : Fields} {g : Range} {words : List ℕ} → f ≡ fieldsAt v → g ≡ rangeOf f
+      → words ≡ take (length v) (drop 12 v) → numbersOf g (words16 words) ≡ standardNumbers v
+  numbers-found e k w =
+      let h : length (drop 12 v) ≤ length v = omega (arith, length-drop 12 v) in
+      rw (k, e, w, take-all (length v) (drop 12 v) h)
+
+  range-size : rangeOf (fieldsAt v) .size ≤ circle
+  unfolding rangeOf
+  range-size = both (λ (n : ℕ). n ≤ circle) (eqb (fieldsAt v .begin) (fieldsAt v .end)) (λ _. omega arith)
+      (λ _. omega arith)
+
+  -- no more than the circle has
+  pub numbers-few : length (standardNumbers v) ≤ circle
+  numbers-few =
+      let g = rangeOf (fieldsAt v) in
+      omega (arith, length-numbers g (standardWords v), inside-count-le g, range-size)
 
   -- ---- the pairs
 
