@@ -38,22 +38,22 @@ module _ (v : List ℕ) where
 
   -- ---- types 1 to 3
 
-  pub ranged-short : {g : Ranged} {n : ℕ} {t u w : List ℕ} → length v < 12
+  pub ranged-short : (g : Ranged) {n : ℕ} {t u w : List ℕ} → length v < 12
       → Laid (from 12 v (rangedOf v ∷ listed g v)) n t u w t u w n
-  ranged-short {g} h = rw (from-short v 12 (rangedOf v ∷ listed g v) h) laid-none
+  ranged-short g h = rw (from-short v 12 (rangedOf v ∷ listed g v) h) laid-none
 
-  module _ {g : Ranged} (long : 12 ≤ length v) {n n1 n2 : ℕ} {t u w t1 u1 w1 t2 u2 w2 : List ℕ}
+  module _ (long : 12 ≤ length v) {n n1 : ℕ} {t u w t1 u1 w1 : List ℕ}
       (p : Laid (rangedOf v ∷ []) n t u w t1 u1 w1 n1) where
-    pub ranged-chunks : {a : Rle} {xs : List ℕ} → g ≡ Chunks a → xs ≡ standardNumbers v
+    pub ranged-chunks : {g : Ranged} {a : Rle} (xs : List ℕ) {n2 : ℕ} {t2 u2 : List ℕ} → g ≡ Chunks a → xs ≡ standardNumbers v
         → t2 ≡ laid tagPart (map Number xs) n1 t1 → u2 ≡ laid numberPart (map Number xs) n1 u1
         → n2 ≡ n1 + length xs → Laid (from 12 v (rangedOf v ∷ listed g v)) n t u w t2 u2 w1 n2
-    ranged-chunks {xs = xs} e k q r s =
+    ranged-chunks {g} xs e k q r s =
         rw (from-enough v 12 (rangedOf v ∷ listed g v) long, e, ← k) (and-then p (laid-word xs q r s))
 
-    pub ranged-times : {ps : List Receipt} → g ≡ Times → ps ≡ standardPairs v
+    pub ranged-times : {g : Ranged} {ps : List Receipt} {n2 : ℕ} {t2 u2 w2 : List ℕ} → g ≡ Times → ps ≡ standardPairs v
         → Laid (map Pair ps) n1 t1 u1 w1 t2 u2 w2 n2
         → Laid (from 12 v (rangedOf v ∷ listed g v)) n t u w t2 u2 w2 n2
-    ranged-times e k q =
+    ranged-times {g} e k q =
         rw (from-enough v 12 (rangedOf v ∷ listed g v) long, e, ← k) (and-then p q)
 
   -- there is an event at least
