@@ -60,14 +60,14 @@ static int show(const char *name, uint8_t r, const uint8_t *packet, size_t packe
 /* Reads a packet that comes some bytes at a time, as from a serial line, and prints each number as soon as its bytes are
  * there. The packet itself is not kept: `state` is all that goes from call to call. */
 static int follow(const uint8_t *packet, size_t packet_len, size_t size) {
-    static uint64_t tags[16384], values[16384]; /* room for any byte's events */
-    static uint16_t numbers[16384];
+    static uint64_t tags[XR_MOST_EVENTS], values[XR_MOST_EVENTS]; /* room for any byte's events */
+    static uint16_t numbers[XR_MOST_EVENTS];
     xr_portions state = xr_portions_start();
 
     for (size_t at = 0; at < packet_len; at += size) {
         size_t given = packet_len - at < size ? packet_len - at : size;
-        xr_flat_followed a =
-            xr_follow(state, packet + at, given, tags, 16384, numbers, 16384, values, 16384);
+        xr_flat_followed a = xr_follow(state, packet + at, given, tags, XR_MOST_EVENTS, numbers, XR_MOST_EVENTS, values,
+            XR_MOST_EVENTS);
         for (uint64_t i = 0; i < a.events; i++) {
             if ((tags[i] & 255) == 4)
                 printf("byte %zu: number %u\n", at + given, (unsigned)numbers[i]);
