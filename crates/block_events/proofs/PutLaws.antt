@@ -44,7 +44,8 @@ module _ (v : List ℕ) where
 
   module _ (long : 12 ≤ length v) {n n1 : ℕ} {t u w t1 u1 w1 : List ℕ}
       (p : Laid (rangedOf v ∷ []) n t u w t1 u1 w1 n1) where
-    pub ranged-chunks : {g : Ranged} {a : Rle} (xs : List ℕ) {n2 : ℕ} {t2 u2 : List ℕ} → g ≡ Chunks a → xs ≡ standardNumbers v
+    pub ranged-chunks : {g : Ranged} {a : Rle} (xs : List ℕ) {n2 : ℕ} {t2 u2 : List ℕ} → g ≡ Chunks a
+        → xs ≡ standardNumbers v
         → t2 ≡ laid tagPart (map Number xs) n1 t1 → u2 ≡ laid numberPart (map Number xs) n1 u1
         → n2 ≡ n1 + length xs → Laid (from 12 v (rangedOf v ∷ listed g v)) n t u w t2 u2 w1 n2
     ranged-chunks {g} xs e k q r s =

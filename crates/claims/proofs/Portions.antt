@@ -31,7 +31,8 @@ use Rattle.def_portions.specs.Calls.{Call, callOf, pastFault, roomFault}
 use Rattle.states.specs.declared.Portions.{Portions}
 use Rattle.states.specs.declared.Followed.{Followed}
 use Rattle.states.specs.Steps.{start, head, block, low32, faultOf, after, shows}
-use Rattle.states.specs.Call.{announcedBy, takenIn, pastOf, pastBy, callFault, followedBy, followedOf, givenBy, givenOf, Following}
+use Rattle.states.specs.Call.{announcedBy, takenIn, pastOf, pastBy, callFault, followedBy}
+use Rattle.states.specs.Call.{followedOf, givenBy, givenOf, Following}
 use Rattle.states.proofs.RunLaws.{after-append, shows-append, after-closed, shows-closed}
 use Rattle.event_lists.specs.Parts.{eventsIn}
 use Rattle.portions.proofs.MostLaws.{most-shown}
@@ -193,9 +194,14 @@ module _ (n m : ℕ) where
   head-not : (s : List ℕ) → headFault s ≡ Unfit (NoRoom n m) → ⊥
   unfolding headFault
   head-not s =
-      checked (leb 8 (announcedOf s)) (TooShort 8 (announcedOf s)) _ (λ (e : TooShort 8 (announcedOf s) ≡ NoRoom n m). absurd (let q : _≡_ {A = ℕ} 0 1 = cc in omega arith))
-      (checked (eqb (versionOf s) 2) WrongVersion _ (λ (e : WrongVersion ≡ NoRoom n m). absurd (let q : _≡_ {A = ℕ} 0 1 = cc in omega arith))
-      (checked (eqb (byteAt s 1) 207) WrongPacketType _ (λ (e : WrongPacketType ≡ NoRoom n m). absurd (let q : _≡_ {A = ℕ} 0 1 = cc in omega arith))
+      checked (leb 8 (announcedOf s)) (TooShort 8 (announcedOf s)) _ (λ (e : TooShort 8 (announcedOf s)
+      ≡ NoRoom n m).
+      absurd (let q : _≡_ {A = ℕ} 0 1 = cc in omega arith))
+      (checked (eqb (versionOf s) 2) WrongVersion _ (λ (e : WrongVersion
+      ≡ NoRoom n m).
+      absurd (let q : _≡_ {A = ℕ} 0 1 = cc in omega arith))
+      (checked (eqb (byteAt s 1) 207) WrongPacketType _ (λ (e : WrongPacketType
+      ≡ NoRoom n m). absurd (let q : _≡_ {A = ℕ} 0 1 = cc in omega arith))
       (λ e. let z : NoRoom n m ≡ Padded = unfit (need-is (not (isPadded s)) Padded (NoRoom n m) e) in
       absurd (let q : _≡_ {A = ℕ} 0 1 = cc in omega arith))))
 

@@ -11,8 +11,9 @@ use Rattle.def_portions.specs.Lists.{tagOf, numberPart, valuePart, laid}
 use Rattle.examples.specs.PortionCalls.{Past, OneCall, Orders, Held}
 
 pub past-hold : Past
-unfolding pairUp rleOf rangedOf kindOf standardRule valuesIn rangeOf offsetOf inside numberOf valuesOf numbersFrom pairsFrom
-    echoesOf headFault blockFault kindEvents blocksFrom courseOf pastFault callOf tagOf numberPart valuePart laid
+unfolding pairUp rleOf rangedOf kindOf standardRule valuesIn rangeOf offsetOf inside numberOf valuesOf numbersFrom
+    pairsFrom echoesOf headFault blockFault kindEvents blocksFrom courseOf pastFault callOf tagOf numberPart valuePart
+    laid
 past-hold =
     record {
       unknown = (refl, refl);
@@ -20,8 +21,9 @@ past-hold =
     }
 
 pub one-call-hold : OneCall
-unfolding pairUp rleOf rangedOf kindOf standardRule valuesIn rangeOf offsetOf inside numberOf valuesOf numbersFrom pairsFrom
-    echoesOf headFault blockFault kindEvents blocksFrom courseOf pastFault callOf tagOf numberPart valuePart laid
+unfolding pairUp rleOf rangedOf kindOf standardRule valuesIn rangeOf offsetOf inside numberOf valuesOf numbersFrom
+    pairsFrom echoesOf headFault blockFault kindEvents blocksFrom courseOf pastFault callOf tagOf numberPart valuePart
+    laid
 one-call-hold =
     record {
       adds = (refl, refl, refl);
@@ -34,8 +36,9 @@ one-call-hold =
     }
 
 pub orders-hold : Orders
-unfolding pairUp rleOf rangedOf kindOf standardRule valuesIn rangeOf offsetOf inside numberOf valuesOf numbersFrom pairsFrom
-    echoesOf headFault blockFault kindEvents blocksFrom courseOf pastFault callOf tagOf numberPart valuePart laid
+unfolding pairUp rleOf rangedOf kindOf standardRule valuesIn rangeOf offsetOf inside numberOf valuesOf numbersFrom
+    pairsFrom echoesOf headFault blockFault kindEvents blocksFrom courseOf pastFault callOf tagOf numberPart valuePart
+    laid
 orders-hold =
     record {
       stays = (refl, refl, refl, refl);
@@ -46,8 +49,9 @@ orders-hold =
     }
 
 pub held-hold : Held
-unfolding pairUp rleOf rangedOf kindOf standardRule valuesIn rangeOf offsetOf inside numberOf valuesOf numbersFrom pairsFrom
-    echoesOf headFault blockFault kindEvents blocksFrom courseOf pastFault callOf tagOf numberPart valuePart laid
+unfolding pairUp rleOf rangedOf kindOf standardRule valuesIn rangeOf offsetOf inside numberOf valuesOf numbersFrom
+    pairsFrom echoesOf headFault blockFault kindEvents blocksFrom courseOf pastFault callOf tagOf numberPart valuePart
+    laid
 held-hold =
     record {
       header = (refl, refl, refl);

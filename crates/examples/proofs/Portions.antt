@@ -9,8 +9,8 @@ use Rattle.def_portions.specs.Events.{headFault, blockFault, kindEvents, blocks
 use Rattle.examples.specs.Portions.{HeadFaults, BlockFaults, BlockSoFar, SoFar}
 
 pub head-faults-hold : HeadFaults
-unfolding pairUp rleOf rangedOf kindOf standardRule valuesIn rangeOf offsetOf inside numberOf valuesOf numbersFrom pairsFrom
-    echoesOf headFault blockFault kindEvents blocksFrom courseOf
+unfolding pairUp rleOf rangedOf kindOf standardRule valuesIn rangeOf offsetOf inside numberOf valuesOf numbersFrom
+    pairsFrom echoesOf headFault blockFault kindEvents blocksFrom courseOf
 head-faults-hold =
     record {
       least = (refl, refl);
@@ -21,8 +21,8 @@ head-faults-hold =
     }
 
 pub block-faults-hold : BlockFaults
-unfolding pairUp rleOf rangedOf kindOf standardRule valuesIn rangeOf offsetOf inside numberOf valuesOf numbersFrom pairsFrom
-    echoesOf headFault blockFault kindEvents blocksFrom courseOf
+unfolding pairUp rleOf rangedOf kindOf standardRule valuesIn rangeOf offsetOf inside numberOf valuesOf numbersFrom
+    pairsFrom echoesOf headFault blockFault kindEvents blocksFrom courseOf
 block-faults-hold =
     record {
       too-long = (refl, refl, refl, refl);
@@ -34,8 +34,8 @@ block-faults-hold =
     }
 
 pub block-so-far-hold : BlockSoFar
-unfolding pairUp rleOf rangedOf kindOf standardRule valuesIn rangeOf offsetOf inside numberOf valuesOf numbersFrom pairsFrom
-    echoesOf headFault blockFault kindEvents blocksFrom courseOf
+unfolding pairUp rleOf rangedOf kindOf standardRule valuesIn rangeOf offsetOf inside numberOf valuesOf numbersFrom
+    pairsFrom echoesOf headFault blockFault kindEvents blocksFrom courseOf
 block-so-far-hold =
     record {
       of-loss = (refl, refl, refl, refl, refl, refl, refl);
@@ -47,8 +47,8 @@ block-so-far-hold =
     }
 
 pub so-far-hold : SoFar
-unfolding pairUp rleOf rangedOf kindOf standardRule valuesIn rangeOf offsetOf inside numberOf valuesOf numbersFrom pairsFrom
-    echoesOf headFault blockFault kindEvents blocksFrom courseOf
+unfolding pairUp rleOf rangedOf kindOf standardRule valuesIn rangeOf offsetOf inside numberOf valuesOf numbersFrom
+    pairsFrom echoesOf headFault blockFault kindEvents blocksFrom courseOf
 so-far-hold =
     record {
       nothing = (refl, refl);

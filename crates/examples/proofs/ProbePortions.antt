@@ -15,9 +15,9 @@ use Rattle.def_probe.specs.Requests.{sizesAt, callsText, portionsText, portions
 use Rattle.examples.specs.ProbePortions.{OfPortions}
 
 pub of-portions-hold : OfPortions
-unfolding numbered pairUp rleOf rangedOf kindOf standardRule valuesIn rangeOf offsetOf inside numberOf valuesOf numbersFrom
-    pairsFrom echoesOf headFault blockFault kindEvents blocksFrom courseOf pastFault callOf decimalWithin refusalLine
-    fieldsLine eventLine eventLines givenLine sizesAt callsText portionsText portionsReply answerTo
+unfolding numbered pairUp rleOf rangedOf kindOf standardRule valuesIn rangeOf offsetOf inside numberOf valuesOf
+    numbersFrom pairsFrom echoesOf headFault blockFault kindEvents blocksFrom courseOf pastFault callOf decimalWithin
+    refusalLine fieldsLine eventLine eventLines givenLine sizesAt callsText portionsText portionsReply answerTo
 of-portions-hold =
     record {
       whole = (refl, refl);

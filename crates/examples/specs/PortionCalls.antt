@@ -39,7 +39,8 @@ pub record Past : Type 0 where
 pub record OneCall : Type 0 where
   -- only what this call's bytes complete
   pub adds :
-      (callOf [] mixed 6 ≡ call (Header 32 1 ∷ Start 99 8 ∷ Start 4 12 ∷ time 0x100000002 ∷ Start 98 4 ∷ End ∷ []) Fine mixed)
+      (callOf [] mixed 6
+      ≡ call (Header 32 1 ∷ Start 99 8 ∷ Start 4 12 ∷ time 0x100000002 ∷ Start 98 4 ∷ End ∷ []) Fine mixed)
       × (callOf (take 8 mixed) (take 12 (drop 8 mixed)) 2 ≡ call (Start 99 8 ∷ Start 4 12 ∷ []) Fine (take 20 mixed))
       × (callOf (take 31 mixed) (drop 31 mixed) 2 ≡ call (Start 98 4 ∷ End ∷ []) Fine mixed)
   -- no bytes: nothing, and no room is needed
@@ -74,7 +75,8 @@ pub record Orders : Type 0 where
       × (callOf bad-rule (1 ∷ []) 9 ≡ call [] (Unfit (BadBlockLength 12 16)) bad-rule)
   -- 1, 2, 3 and 18 before 19: here 8 bytes are announced and 9 are given
   pub head-first :
-      (callOf [] (version1 ++ rows (1 ∷ []) ++ 0 ∷ []) 0 ≡ call [] (Unfit WrongVersion) (version1 ++ rows (1 ∷ []) ++ 0 ∷ []))
+      (callOf [] (version1 ++ rows (1 ∷ []) ++ 0 ∷ []) 0
+      ≡ call [] (Unfit WrongVersion) (version1 ++ rows (1 ∷ []) ++ 0 ∷ []))
       × (callOf [] (short ++ rows (1 ∷ [])) 0 ≡ call [] (Unfit (TooShort 8 4)) (short ++ rows (1 ∷ [])))
   -- 19 before 11
   pub past-first : callOf [] (packet [] ++ 0 ∷ []) 0 ≡ call [] (Unfit (PastEnd 8 9)) []
@@ -82,7 +84,8 @@ pub record Orders : Type 0 where
   pub past-before-seven : callOf [] (bad-rule ++ 0 ∷ []) 9 ≡ call [] (Unfit (PastEnd 32 33)) []
   -- 11 before 6 and 7, by the events before them
   pub room-before-seven :
-      (callOf [] bad-rule 1 ≡ call [] (Unfit (NoRoom 2 1)) []) × (callOf [] bad-length 1 ≡ call [] (Unfit (NoRoom 2 1)) [])
+      (callOf [] bad-rule 1 ≡ call [] (Unfit (NoRoom 2 1)) [])
+      × (callOf [] bad-length 1 ≡ call [] (Unfit (NoRoom 2 1)) [])
 
 -- how each event is held
 pub record Held : Type 0 where

@@ -31,7 +31,8 @@ pub record HeadFaults : Type 0 where
   pub least : (headFault (rows (0x80cf0000 ∷ [])) ≡ Unfit (TooShort 8 4)) × (headFault (rows (0x80cf0001 ∷ [])) ≡ Fine)
   -- 2: the five low bits are not looked at
   pub version :
-      (headFault (rows (0x40cf0001 ∷ [])) ≡ Unfit WrongVersion) × (headFault (rows (0xc0cf0001 ∷ [])) ≡ Unfit WrongVersion)
+      (headFault (rows (0x40cf0001 ∷ [])) ≡ Unfit WrongVersion)
+      × (headFault (rows (0xc0cf0001 ∷ [])) ≡ Unfit WrongVersion)
       × (headFault (rows (0x9fcf0001 ∷ [])) ≡ Fine)
   -- 3
   pub packet-type :
@@ -41,15 +42,18 @@ pub record HeadFaults : Type 0 where
   pub padding : headFault (rows (0xa0cf0001 ∷ [])) ≡ Unfit Padded
   -- 1, 2, 3, 18
   pub order :
-      (headFault (rows (0x60ce0000 ∷ [])) ≡ Unfit (TooShort 8 4)) × (headFault (rows (0x60ce0001 ∷ [])) ≡ Unfit WrongVersion)
+      (headFault (rows (0x60ce0000 ∷ [])) ≡ Unfit (TooShort 8 4))
+      × (headFault (rows (0x60ce0001 ∷ [])) ≡ Unfit WrongVersion)
       × (headFault (rows (0xa0ce0001 ∷ [])) ≡ Unfit WrongPacketType)
 
 -- a block's first four bytes
 pub record BlockFaults : Type 0 where
   -- 6: as many bytes as are left, and four over
   pub too-long :
-      (blockFault 12 (rows (0x01000002 ∷ [])) ≡ Fine) × (blockFault 12 (rows (0x01000003 ∷ [])) ≡ Unfit (BlockTooLong 16 12))
-      × (blockFault 4 (rows (0x63000000 ∷ [])) ≡ Fine) × (blockFault 4 (rows (0x63000001 ∷ [])) ≡ Unfit (BlockTooLong 8 4))
+      (blockFault 12 (rows (0x01000002 ∷ [])) ≡ Fine)
+      × (blockFault 12 (rows (0x01000003 ∷ [])) ≡ Unfit (BlockTooLong 16 12))
+      × (blockFault 4 (rows (0x63000000 ∷ [])) ≡ Fine)
+      × (blockFault 4 (rows (0x63000001 ∷ [])) ≡ Unfit (BlockTooLong 8 4))
   -- 7: types 1 to 3 from 12 on
   pub ranges :
       (blockFault 99 (rows (0x01000001 ∷ [])) ≡ Unfit (BadBlockLength 12 8))
@@ -96,7 +100,8 @@ times-start = RangedStart 3 24 (fields 7 65535 1 0)
 pub record BlockSoFar : Type 0 where
   -- the fields with byte 12, a number with its word's second byte
   pub of-loss :
-      (blockEvents (take 4 loss) ≡ []) × (blockEvents (take 11 loss) ≡ []) × (blockEvents (take 12 loss) ≡ loss-start ∷ [])
+      (blockEvents (take 4 loss) ≡ []) × (blockEvents (take 11 loss) ≡ [])
+      × (blockEvents (take 12 loss) ≡ loss-start ∷ [])
       × (blockEvents (take 13 loss) ≡ loss-start ∷ [])
       × (blockEvents (take 14 loss) ≡ loss-start ∷ Number 10 ∷ [])
       × (blockEvents (take 15 loss) ≡ loss-start ∷ Number 10 ∷ [])
@@ -123,7 +128,8 @@ pub record BlockSoFar : Type 0 where
       × (blockEvents echoed ≡ Start 5 28 ∷ entry 1 2 3 ∷ entry 4 5 6 ∷ [])
   -- others: the start alone
   pub of-others :
-      (blockEvents (rows (0x63000001 ∷ [])) ≡ Start 99 8 ∷ []) × (blockEvents (rows (0x63000001 ∷ 5 ∷ [])) ≡ Start 99 8 ∷ [])
+      (blockEvents (rows (0x63000001 ∷ [])) ≡ Start 99 8 ∷ [])
+      × (blockEvents (rows (0x63000001 ∷ 5 ∷ [])) ≡ Start 99 8 ∷ [])
       × (blockEvents (rows (0x06000000 ∷ [])) ≡ Start 6 4 ∷ [])
 
 -- three blocks: of 8 bytes, a clock, of 4

@@ -25,14 +25,16 @@ pub record OfPortions : Type 0 where
   pub whole :
       (answerTo 12 (gives 2 [] (packet [])) ≡ says ("header 8 1" ∷ "end" ∷ "taken 8 events 2" ∷ []))
       × (answerTo 12 (gives 4 [] heard)
-      ≡ says ("header 24 1" ∷ "start 1 16 ssrc 7 begin 10 end 14 thinning 0" ∷ "number 10" ∷ "end" ∷ "taken 24 events 4" ∷ []))
+      ≡ says
+      ("header 24 1" ∷ "start 1 16 ssrc 7 begin 10 end 14 thinning 0" ∷ "number 10" ∷ "end" ∷ "taken 24 events 4" ∷ []))
   -- no sizes and no bytes: no call
   pub none : answerTo 12 (gives 2 [] []) ≡ says []
   -- a call for each size, with no bytes too; then one with what is left
   pub sizes :
       (answerTo 12 (gives 2 (3 ∷ 0 ∷ 5 ∷ []) (packet []))
       ≡ says ("taken 3 events 0" ∷ "taken 0 events 0" ∷ "header 8 1" ∷ "end" ∷ "taken 5 events 2" ∷ []))
-      × (answerTo 12 (gives 2 (7 ∷ []) (packet [])) ≡ says ("taken 7 events 0" ∷ "header 8 1" ∷ "end" ∷ "taken 1 events 2" ∷ []))
+      × (answerTo 12 (gives 2 (7 ∷ []) (packet []))
+      ≡ says ("taken 7 events 0" ∷ "header 8 1" ∷ "end" ∷ "taken 1 events 2" ∷ []))
       × (answerTo 12 (gives 9 (1 ∷ []) []) ≡ says ("taken 0 events 0" ∷ []))
   -- a size over what is left gives what is left
   pub over :

@@ -77,8 +77,7 @@ put-requires-2 c κs = let i = c .before .before .before .before in
     let e = p .before .before .before .before .before in
     let o = asked (e .before .before) in
     let k = clock-two (v-of o) (clock e) (i .if1 .left) in
-    let b = clock-began p in
-    (
+    let b = clock-began p in (
       omega (arith, k, b .past, same-tags b, start o .pre),
       omega (arith, k, b .past, same-numbers b, start o .pre),
       omega (arith, k, b .past, same-values b, start o .pre),
@@ -119,8 +118,7 @@ put-entries-requires c κs = let n = c .before .before in
     let o = asked (e .before .before) in
     let k = echoes-length (v-of o) (echoes e) in
     let b = echoes-began p in
-    let m = n .count .ensures in
-    (
+    let m = n .count .ensures in (
       m,
       (
         omega (arith, k, m, b .past, same-tags b, start o .pre),

@@ -55,8 +55,11 @@ returns c = let t = c .before .before in
     let e : a .n + k - a .n ≡ length xs = omega (arith, counted m) in (
       t .put-tags .ensures ∙ ap (λ (k : ℕ). sets (a .tags .now) (a .n) (numberTags k)) e
           ∙ sym (laid-tags xs (a .n) (a .tags .now)),
-      (filled-part xs (a .numbers .now) (a .n) (s .pre .1) (f .fill-standard .ensures)
-          ∙ sym (laid-numbers xs (a .n) (a .numbers .now)), omega (arith, counted m)),
+      (
+        filled-part xs (a .numbers .now) (a .n) (s .pre .1) (f .fill-standard .ensures)
+            ∙ sym (laid-numbers xs (a .n) (a .numbers .now)),
+        omega (arith, counted m),
+      ),
     )
 
 returns-2 : tie.Need-returns-2

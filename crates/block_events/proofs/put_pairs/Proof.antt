@@ -37,14 +37,22 @@ slice-write-values c = let t = c .before in omega (arith, t .before .loop .inv .
 
 add-at : tie.Need-add-at Inv-loop μ-loop
 add-at c = let t = c .before .before in
-    omega (arith, time-there (t .before .loop .inv) (t .loop-test .taken),
-      t .before .before .before .before .before .before .good)
+    omega (
+      arith,
+      time-there (t .before .loop .inv) (t .loop-test .taken),
+      t .before .before .before .before .before .before .good,
+    )
 
 add-i : tie.Need-add-i Inv-loop μ-loop
 add-i c = let t = c .before .before in
     let p = t .before .loop .inv in
-    omega (arith, p .room, p .same-tags, t .loop-test .taken,
-      t .before .before .before .before .before .before .good)
+    omega (
+      arith,
+      p .room,
+      p .same-tags,
+      t .loop-test .taken,
+      t .before .before .before .before .before .before .good,
+    )
 
 loop-less : tie.Need-loop-less Inv-loop μ-loop
 loop-less c = omega (arith, c .before .before .loop-test .taken)

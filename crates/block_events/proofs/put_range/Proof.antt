@@ -72,8 +72,7 @@ put-numbers-requires c κs =
     let p = stored (t .before .before) in
     let s = start p in
     let b = began p in
-    let k = count-chunks (v-of p) (s .args .g) _ _ (t .enum-told .given .1) (long p .if1 .left) (ap length (numbers a)) in
-    (
+    let k = count-chunks (v-of p) (s .args .g) _ _ (t .enum-told .given .1) (long p .if1 .left) (ap length (numbers a)) in (
       omega (arith, k, b .past, same-tags b, s .pre),
       omega (arith, k, b .past, same-numbers b, s .pre),
     )
@@ -109,8 +108,7 @@ put-pairs-requires c κs =
     let s = start p in
     let b = began p in
     let k = count-times v (s .args .g) _ (t .enum-told2 .given .1) (long p .if1 .left)
-        (counted l ∙ sym (length-pairs v)) in
-    (
+    (counted l ∙ sym (length-pairs v)) in (
       omega (arith, counted l, length-words32 (drop 12 v), length-drop 12 v),
       omega (arith, k, b .past, same-tags b, same-numbers b, same-values b, s .pre),
     )
@@ -126,9 +124,9 @@ returns-3 c =
     let g = p .before .before .before .before .before .before in
     let f = g .before in
     let first = first-found Standard (f .fields-at .result) (v-of p) (f .fields-at .ensures) (x .number-at .result)
-        (g .range-of .result) (x .number-at .ensures) (g .range-of .ensures) in
+    (g .range-of .result) (x .number-at .ensures) (g .range-of .ensures) in
     let step = step-found Standard (f .fields-at .result) (v-of p) (f .fields-at .ensures) (d .doubled .result)
-        (d .doubled .ensures) in
+    (d .doubled .ensures) in
     ranged-times (v-of p) (long p .if1 .left) (began p) (t .enum-told2 .given .1)
     (pairs-stepped (v-of p) (x .number-at .result) (d .doubled .result) (l .lesser .result) first step (counted l))
     (q .put-pairs .ensures)
