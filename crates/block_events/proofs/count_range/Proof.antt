@@ -47,7 +47,7 @@ returns-3 c = let n = c .before in
     let i = f .before in
     let a = i .before .before .args in
     let e : n .inside-count .result ≡ insideCount (rangeOf (fieldsAt (a .v .now))) =
-        n .inside-count .ensures ∙ ap insideCount (g .range-of .ensures ∙ ap rangeOf (f .fields-at .ensures)) in
+    n .inside-count .ensures ∙ ap insideCount (g .range-of .ensures ∙ ap rangeOf (f .fields-at .ensures)) in
     count-times (a .v .now) (a .g) _ (t .enum-told2 .given .1) (i .if1 .left)
     (c .lesser .ensures ∙ ap (min ((length (a .v .now) - 12) / 4)) e ∙ sym (length-pairs (a .v .now)))
 

@@ -1,9 +1,8 @@
 -- `block_events::put_block` meets its contract: by the kind of block. Assumes nothing.
-use Prim.Native.Nat.{ℕ, _+_}
-use mathlib.Core.Path.{_≡_, sym, ap, _∙_}
+use Prim.Native.Nat.{ℕ}
+use mathlib.Core.Path.{_≡_, ap, _∙_}
 use mathlib.Core.List.{List, [], _∷_}
 use native.Mathlib.Omega.{arith}
-use lib.ListN.{length}
 use borrow.Author.Needs.{needs}
 use Rattle.def_wire.specs.declared.Kind.{Kind}
 use Rattle.def_wire.specs.declared.Kind.the-variants.{Clock, Echoes}
@@ -77,8 +76,7 @@ put-requires-2 c κs = let i = c .before .before .before .before in
     let e = p .before .before .before .before .before in
     let o = asked (e .before .before) in
     let k = clock-two (v-of o) (clock e) (i .if1 .left) in
-    let b = clock-began p in
-    (
+    let b = clock-began p in (
       omega (arith, k, b .past, same-tags b, start o .pre),
       omega (arith, k, b .past, same-numbers b, start o .pre),
       omega (arith, k, b .past, same-values b, start o .pre),
@@ -119,8 +117,7 @@ put-entries-requires c κs = let n = c .before .before in
     let o = asked (e .before .before) in
     let k = echoes-length (v-of o) (echoes e) in
     let b = echoes-began p in
-    let m = n .count .ensures in
-    (
+    let m = n .count .ensures in (
       m,
       (
         omega (arith, k, m, b .past, same-tags b, start o .pre),

@@ -1,14 +1,11 @@
 -- `block_events::put_entries` meets its contract: what is still to be stored are the entries from the next one on.
 -- Assumes nothing.
-use mathlib.Core.Path.{_≡_, ap, _∙_}
-use mathlib.Core.List.{[], map}
+use mathlib.Core.Path.{_∙_}
 use native.Mathlib.Omega.{arith}
-use lib.ListN.{length, length-map}
+use lib.ListN.{length-map}
 use borrow.Author.Needs.{needs}
 use Rattle.def_standard.specs.Standard.{entriesOf}
 use Rattle.def_portions.specs.declared.Event.the-variants.{Entry}
-use Rattle.event_lists.specs.Laid.{Laid}
-use Rattle.event_lists.proofs.LaidLaws.{same-tags, same-values}
 use Rattle.block_events.proofs.EntriesTurn.{Echoing, begun, entry-there, turned, entries-stored}
 use Rattle.block_events.proofs.put_entries.Statement.{statement}
 use Rattle.block_events.proofs.put_entries.Tie as tie
@@ -32,16 +29,22 @@ slice-write-tags c = let t = c .before in omega (arith, t .before .loop .inv .ro
 
 add-load32 : tie.Need-add-load32 Inv-loop μ-loop
 add-load32 c = let t = c .before in
-    omega (arith, entry-there (t .before .loop .inv) (t .loop-test .taken),
-      t .before .before .before .before .before .good)
+    omega (
+      arith,
+      entry-there (t .before .loop .inv) (t .loop-test .taken),
+      t .before .before .before .before .before .good,
+    )
 
 load32-requires-2 : tie.Need-load32-requires-2 Inv-loop μ-loop
 load32-requires-2 c κs = let t = c .before in omega (arith, entry-there (t .before .loop .inv) (t .loop-test .taken))
 
 add-load32-2 : tie.Need-add-load32-2 Inv-loop μ-loop
 add-load32-2 c = let t = c .before .before in
-    omega (arith, entry-there (t .before .loop .inv) (t .loop-test .taken),
-      t .before .before .before .before .before .good)
+    omega (
+      arith,
+      entry-there (t .before .loop .inv) (t .loop-test .taken),
+      t .before .before .before .before .before .good,
+    )
 
 load32-requires-3 : tie.Need-load32-requires-3 Inv-loop μ-loop
 load32-requires-3 c κs = let t = c .before .before in
@@ -53,14 +56,22 @@ slice-write-values c = let t = c .before .before .before .before in
 
 add-at : tie.Need-add-at Inv-loop μ-loop
 add-at c = let t = c .before .before .before .before in
-    omega (arith, entry-there (t .before .loop .inv) (t .loop-test .taken),
-      t .before .before .before .before .before .good)
+    omega (
+      arith,
+      entry-there (t .before .loop .inv) (t .loop-test .taken),
+      t .before .before .before .before .before .good,
+    )
 
 add-i : tie.Need-add-i Inv-loop μ-loop
 add-i c = let t = c .before .before .before .before in
     let p = t .before .loop .inv in
-    omega (arith, p .room-tags, p .same-tags, t .loop-test .taken,
-      t .before .before .before .before .before .good)
+    omega (
+      arith,
+      p .room-tags,
+      p .same-tags,
+      t .loop-test .taken,
+      t .before .before .before .before .before .good,
+    )
 
 loop-again : tie.Need-loop-again Inv-loop μ-loop
 loop-again c = let d3 = c .before in

@@ -1,5 +1,5 @@
 -- `block_events::put_numbers` meets its contract: the numbers, and a tag for each. Assumes nothing.
-use Prim.Native.Nat.{ℕ, _+_, _-_, _≤_}
+use Prim.Native.Nat.{ℕ, _+_, _-_}
 use mathlib.Core.Path.{_≡_, sym, ap, _∙_}
 use mathlib.Core.List.{List}
 use native.Mathlib.Omega.{arith}
@@ -55,8 +55,11 @@ returns c = let t = c .before .before in
     let e : a .n + k - a .n ≡ length xs = omega (arith, counted m) in (
       t .put-tags .ensures ∙ ap (λ (k : ℕ). sets (a .tags .now) (a .n) (numberTags k)) e
           ∙ sym (laid-tags xs (a .n) (a .tags .now)),
-      (filled-part xs (a .numbers .now) (a .n) (s .pre .1) (f .fill-standard .ensures)
-          ∙ sym (laid-numbers xs (a .n) (a .numbers .now)), omega (arith, counted m)),
+      (
+        filled-part xs (a .numbers .now) (a .n) (s .pre .1) (f .fill-standard .ensures)
+            ∙ sym (laid-numbers xs (a .n) (a .numbers .now)),
+        omega (arith, counted m),
+      ),
     )
 
 returns-2 : tie.Need-returns-2

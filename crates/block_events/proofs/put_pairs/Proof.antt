@@ -1,11 +1,7 @@
--- `block_events::put_pairs` meets its contract: what is still to be stored are the pairs from the next time on. Assumes
--- nothing.
-use mathlib.Core.Path.{_≡_, ap, _∙_}
+-- `block_events::put_pairs` meets its contract: what is still to be stored are the pairs from the next time on.
+-- Assumes nothing.
 use native.Mathlib.Omega.{arith}
-use lib.ListN.{length, set, length-set}
 use borrow.Author.Needs.{needs}
-use Rattle.event_lists.specs.Laid.{Laid}
-use Rattle.event_lists.proofs.LaidLaws.{same-tags, same-numbers, same-values}
 use Rattle.block_events.proofs.PairsTurn.{Pairing, pairsAt, begun, time-there, turned, pairs-stored}
 use Rattle.block_events.proofs.put_pairs.Statement.{statement}
 use Rattle.block_events.proofs.put_pairs.Tie as tie
@@ -37,14 +33,22 @@ slice-write-values c = let t = c .before in omega (arith, t .before .loop .inv .
 
 add-at : tie.Need-add-at Inv-loop μ-loop
 add-at c = let t = c .before .before in
-    omega (arith, time-there (t .before .loop .inv) (t .loop-test .taken),
-      t .before .before .before .before .before .before .good)
+    omega (
+      arith,
+      time-there (t .before .loop .inv) (t .loop-test .taken),
+      t .before .before .before .before .before .before .good,
+    )
 
 add-i : tie.Need-add-i Inv-loop μ-loop
 add-i c = let t = c .before .before in
     let p = t .before .loop .inv in
-    omega (arith, p .room, p .same-tags, t .loop-test .taken,
-      t .before .before .before .before .before .before .good)
+    omega (
+      arith,
+      p .room,
+      p .same-tags,
+      t .loop-test .taken,
+      t .before .before .before .before .before .before .good,
+    )
 
 loop-less : tie.Need-loop-less Inv-loop μ-loop
 loop-less c = omega (arith, c .before .before .loop-test .taken)
