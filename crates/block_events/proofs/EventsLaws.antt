@@ -13,7 +13,6 @@ use borrow.Author.Tests.{le-leb, lt-leb}
 use Rattle.def_wire.specs.declared.Ranged.{Ranged}
 use Rattle.def_wire.specs.declared.Ranged.the-variants.{Chunks, Times}
 use Rattle.def_wire.specs.declared.Rle.{Rle}
-use Rattle.def_wire.specs.declared.Kind.{Kind}
 use Rattle.def_wire.specs.declared.Kind.the-variants.{Spans, Clock, Echoes}
 use Rattle.def_wire.specs.declared.KindOr.{KindOr}
 use Rattle.def_wire.specs.declared.KindOr.the-variants.{AKind, NoKind}

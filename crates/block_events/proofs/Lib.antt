@@ -7,3 +7,4 @@ pub mod PartLaws
 pub mod PairsTurn
 pub mod EntriesTurn
 pub mod PutLaws
+pub mod Unique

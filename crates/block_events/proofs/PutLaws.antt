@@ -1,13 +1,12 @@
 -- A block's events from what the calls stored that put them into lists. Assumes nothing.
 --     ranged-*     types 1 to 3: the start, and behind it the numbers or the pairs
 --     clock-*, echoes-*, none-*     the other blocks
-use Prim.Native.Nat.{ℕ, suc, _+_, _≤_, _<_}
+use Prim.Native.Nat.{ℕ, _+_, _≤_, _<_}
 use mathlib.Core.Path.{_≡_, refl, ap, _∙_}
 use mathlib.Core.List.{List, [], _∷_, map}
 use native.Mathlib.Omega.{arith}
-use lib.ListN.{length, length-map}
+use lib.ListN.{length}
 use Rattle.def_wire.specs.declared.Fields.{Fields}
-use Rattle.def_wire.specs.declared.LongTime.{LongTime}
 use Rattle.def_wire.specs.declared.Ranged.{Ranged}
 use Rattle.def_wire.specs.declared.Ranged.the-variants.{Chunks, Times}
 use Rattle.def_wire.specs.declared.Rle.{Rle}
@@ -45,8 +44,7 @@ module _ (v : List ℕ) where
   module _ (long : 12 ≤ length v) {n n1 : ℕ} {t u w t1 u1 w1 : List ℕ}
       (p : Laid (rangedOf v ∷ []) n t u w t1 u1 w1 n1) where
     pub ranged-chunks : {g : Ranged} {a : Rle} (xs : List ℕ) {n2 : ℕ} {t2 u2 : List ℕ} → g ≡ Chunks a
-        → xs ≡ standardNumbers v
-        → t2 ≡ laid tagPart (map Number xs) n1 t1 → u2 ≡ laid numberPart (map Number xs) n1 u1
+        → xs ≡ standardNumbers v → t2 ≡ laid tagPart (map Number xs) n1 t1 → u2 ≡ laid numberPart (map Number xs) n1 u1
         → n2 ≡ n1 + length xs → Laid (from 12 v (rangedOf v ∷ listed g v)) n t u w t2 u2 w1 n2
     ranged-chunks {g} xs e k q r s =
         rw (from-enough v 12 (rangedOf v ∷ listed g v) long, e, ← k) (and-then p (laid-word xs q r s))

@@ -1,5 +1,5 @@
-// The events of a block whose bytes are all there, counted and stored at once, each list by a loop with nothing else in
-// it (RULES, "Packets in portions").
+// The events of a block whose bytes are all there, counted and stored at once, each list by a loop with nothing else
+// in it (RULES, "Packets in portions").
 ghost use mathlib.Core.Path.{_≡_};
 ghost use mathlib.Core.List.{_∷_, map};
 ghost use Prim.Native.Nat.{_+_, _≤_};

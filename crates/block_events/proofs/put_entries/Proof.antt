@@ -1,14 +1,11 @@
 -- `block_events::put_entries` meets its contract: what is still to be stored are the entries from the next one on.
 -- Assumes nothing.
-use mathlib.Core.Path.{_≡_, ap, _∙_}
-use mathlib.Core.List.{[], map}
+use mathlib.Core.Path.{_∙_}
 use native.Mathlib.Omega.{arith}
-use lib.ListN.{length, length-map}
+use lib.ListN.{length-map}
 use borrow.Author.Needs.{needs}
 use Rattle.def_standard.specs.Standard.{entriesOf}
 use Rattle.def_portions.specs.declared.Event.the-variants.{Entry}
-use Rattle.event_lists.specs.Laid.{Laid}
-use Rattle.event_lists.proofs.LaidLaws.{same-tags, same-values}
 use Rattle.block_events.proofs.EntriesTurn.{Echoing, begun, entry-there, turned, entries-stored}
 use Rattle.block_events.proofs.put_entries.Statement.{statement}
 use Rattle.block_events.proofs.put_entries.Tie as tie

@@ -1,11 +1,7 @@
--- `block_events::put_pairs` meets its contract: what is still to be stored are the pairs from the next time on. Assumes
--- nothing.
-use mathlib.Core.Path.{_≡_, ap, _∙_}
+-- `block_events::put_pairs` meets its contract: what is still to be stored are the pairs from the next time on.
+-- Assumes nothing.
 use native.Mathlib.Omega.{arith}
-use lib.ListN.{length, set, length-set}
 use borrow.Author.Needs.{needs}
-use Rattle.event_lists.specs.Laid.{Laid}
-use Rattle.event_lists.proofs.LaidLaws.{same-tags, same-numbers, same-values}
 use Rattle.block_events.proofs.PairsTurn.{Pairing, pairsAt, begun, time-there, turned, pairs-stored}
 use Rattle.block_events.proofs.put_pairs.Statement.{statement}
 use Rattle.block_events.proofs.put_pairs.Tie as tie

@@ -1,23 +1,23 @@
 -- `block_events::put_range` meets its contract: the start, and behind it the numbers or the pairs. Assumes nothing.
-use Prim.Native.Nat.{ℕ, _+_, _-_, _/_, _≤_, min}
-use mathlib.Core.Path.{_≡_, refl, sym, ap, _∙_}
+use Prim.Native.Nat.{ℕ, _-_, _/_, min}
+use mathlib.Core.Path.{_≡_, sym, ap, _∙_}
 use mathlib.Core.List.{List, [], _∷_}
 use native.Mathlib.Omega.{arith}
 use lib.ListN.{length, drop, length-drop}
 use borrow.Author.Needs.{needs}
 use Rattle.def_wire.specs.declared.Reading.the-variants.{Standard}
-use Rattle.def_wire.specs.Bytes.{words16, words32}
+use Rattle.def_wire.specs.Bytes.{words16}
 use Rattle.def_wire.specs.Block.{fieldsAt}
 use Rattle.def_standard.specs.Range.{rangeOf}
-use Rattle.def_standard.specs.Standard.{numbersOf, standardNumbers, standardPairs}
+use Rattle.def_standard.specs.Standard.{numbersOf, standardNumbers}
 use Rattle.def_portions.specs.Events.{rangedOf}
 use Rattle.event_lists.specs.Laid.{Laid}
 use Rattle.event_lists.proofs.LaidLaws.{laid-as, same-tags, same-numbers, same-values}
 use Rattle.utils.proofs.BytesLaws.{length-words32}
 use Rattle.range.specs.Inside.{insideCount}
-use Rattle.packet_receipt_time.specs.Pairs.{stepped}
 use Rattle.packet_receipt_time.proofs.PairsAnswers.{first-found, step-found}
-use Rattle.block_events.proofs.EventsLaws.{numbers-found, length-pairs, pairs-stepped, count-chunks, count-times}
+use Rattle.block_events.proofs.EventsLaws.{numbers-found, length-pairs, pairs-stepped, count-chunks}
+use Rattle.block_events.proofs.EventsLaws.{count-times}
 use Rattle.block_events.proofs.PutLaws.{ranged-start, ranged-short, ranged-chunks, ranged-times, ranged-length}
 use Rattle.block_events.proofs.put_range.Statement.{statement}
 use Rattle.block_events.proofs.put_range.Tie as tie
@@ -72,7 +72,8 @@ put-numbers-requires c κs =
     let p = stored (t .before .before) in
     let s = start p in
     let b = began p in
-    let k = count-chunks (v-of p) (s .args .g) _ _ (t .enum-told .given .1) (long p .if1 .left) (ap length (numbers a)) in (
+    let k = count-chunks (v-of p) (s .args .g) _ _ (t .enum-told .given .1) (long p .if1 .left)
+    (ap length (numbers a)) in (
       omega (arith, k, b .past, same-tags b, s .pre),
       omega (arith, k, b .past, same-numbers b, s .pre),
     )
