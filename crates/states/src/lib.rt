@@ -1,6 +1,6 @@
 // The state of a packet that comes in portions (RULES, "Packets in portions"). A packet is a row of items, each of a
-// known number of bytes: the state has the item at hand, how many of its bytes are missing and those that have come, and
-// what the items behind it need to know. Nothing else of the packet is kept: it is 64 bytes, whatever the packet.
+// known number of bytes: the state has the item at hand, how many of its bytes are missing and those that have come,
+// and what the items behind it need to know. Nothing else of the packet is kept: it is 64 bytes, whatever the packet.
 // Definitions only: see specs/.
 use def_portions::Event;
 use def_refusals::Checked;
