@@ -1,12 +1,17 @@
-// The events of a block whose bytes are all there, counted and stored at once, each list by a loop with nothing else in
-// it (RULES, "Packets in portions").
+// The events of a block whose bytes are all there, counted and stored at once, each list by a loop with nothing else
+// in it (RULES, "Packets in portions").
 ghost use mathlib.Core.Path.{_≡_};
-ghost use mathlib.Core.List.{map};
+ghost use mathlib.Core.List.{_∷_, map};
 ghost use Prim.Native.Nat.{_+_, _≤_};
-ghost use lib.ListN.{length};
+ghost use lib.ListN.{length, drop};
+ghost use Rattle.def_wire.specs.Bytes.{words16, words32};
+ghost use Rattle.def_wire.specs.Block.{typeOf, blockLength};
+ghost use Rattle.def_standard.specs.Standard.{numbersOf, entriesOf};
 ghost use Rattle.def_questions.specs.Questions.{least3};
 ghost use Rattle.def_portions.specs.Events.{blockEvents, from, rangedOf, listed};
+ghost use Rattle.def_portions.specs.Lists.{tagPart, numberPart, valuePart, laid};
 ghost use Rattle.event_lists.specs.Laid.{Laid};
+ghost use Rattle.packet_receipt_time.specs.Pairs.{stepped};
 use def_portions::Event;
 use def_refusals::Answer;
 use def_standard::Range;
@@ -16,16 +21,22 @@ use def_wire::LongTime;
 use def_wire::Ranged;
 
 // A block's type, and its length by its header.
-fn type_of(v: &[u8]) -> u8 {
+fn type_of(v: &[u8]) -> u8
+    ensures { λ r. ⌜ r ≡ typeOf (now (v .entry)) ⌝ }
+{
     xr::block_type(xr::header_data(v))
 }
 
-fn length_of(v: &[u8]) -> u32 {
+fn length_of(v: &[u8]) -> u32
+    ensures { λ r. ⌜ r ≡ blockLength (now (v .entry)) ⌝ }
+{
     xr::block_length(xr::header_data(v)) as u32
 }
 
 // How many events a block of types 1 to 3 has.
-fn count_range(g: Ranged, v: &[u8]) -> usize {
+fn count_range(g: Ranged, v: &[u8]) -> usize
+    ensures { λ r. ⌜ r ≡ length (from 12 (now (v .entry)) (rangedOf (now (v .entry)) ∷ listed g (now (v .entry)))) ⌝ }
+{
     if v.len() < 12 {
         return 0;
     }
@@ -51,7 +62,15 @@ pub fn count_block(v: &[u8]) -> usize
 }
 
 // Stores the numbers of words, and answers the index past them.
-fn put_numbers(words: &[u8], r: Range, tags: &mut [u64], numbers: &mut [u16], n: usize) -> usize {
+fn put_numbers(words: &[u8], r: Range, tags: &mut [u64], numbers: &mut [u16], n: usize) -> usize
+    requires { ⌜ (n + length (numbersOf r (words16 (now words))) ≤ length (now tags))
+        × (n + length (numbersOf r (words16 (now words))) ≤ length (now numbers)) ⌝ }
+    ensures { λ a. ⌜ now (tags .exit) ≡ laid tagPart (map Event.Number (numbersOf r (words16 (now (words .entry))))) n
+        (now (tags .entry)) ⌝ }
+    ensures { λ a. ⌜ now (numbers .exit) ≡ laid numberPart (map Event.Number
+        (numbersOf r (words16 (now (words .entry))))) n (now (numbers .entry)) ⌝ }
+    ensures { λ a. ⌜ a ≡ n + length (numbersOf r (words16 (now (words .entry)))) ⌝ }
+{
     match rle_standard::fill_standard(words, r, &mut numbers[n..]) {
         Answer::Done(m) => {
             event_lists::put_tags(tags, n, n + m);
@@ -71,7 +90,13 @@ fn put_pairs(
     numbers: &mut [u16],
     values: &mut [u64],
     n: usize,
-) -> usize {
+) -> usize
+    requires { ⌜ count ≤ length (words32 (drop 12 (now v))) ⌝ }
+    requires { ⌜ n + count ≤ least3 (now tags) (now numbers) (now values) ⌝ }
+    ensures { λ r. ⌜ Laid (map Event.Pair (stepped step first count (words32 (drop 12 (now (v .entry)))))) n
+        (now (tags .entry)) (now (numbers .entry)) (now (values .entry)) (now (tags .exit)) (now (numbers .exit))
+        (now (values .exit)) r ⌝ }
+{
     let mut left = count;
     let mut at: usize = 12;
     let mut i = n;
@@ -89,7 +114,15 @@ fn put_pairs(
 }
 
 // Stores so many entries, as they stand from byte 4 on.
-fn put_entries(v: &[u8], count: usize, tags: &mut [u64], values: &mut [u64], n: usize) -> usize {
+fn put_entries(v: &[u8], count: usize, tags: &mut [u64], values: &mut [u64], n: usize) -> usize
+    requires { ⌜ count ≡ length (entriesOf (now v)) ⌝ }
+    requires { ⌜ (n + count ≤ length (now tags)) × (n + count ≤ length (now values)) ⌝ }
+    ensures { λ r. ⌜ now (tags .exit) ≡ laid tagPart (map Event.Entry (entriesOf (now (v .entry)))) n
+        (now (tags .entry)) ⌝ }
+    ensures { λ r. ⌜ now (values .exit) ≡ laid valuePart (map Event.Entry (entriesOf (now (v .entry)))) n
+        (now (values .entry)) ⌝ }
+    ensures { λ r. ⌜ r ≡ n + length (entriesOf (now (v .entry))) ⌝ }
+{
     let mut left = count;
     let mut at: usize = 4;
     let mut i = n;
@@ -111,7 +144,13 @@ fn put_range(
     numbers: &mut [u16],
     values: &mut [u64],
     n: usize,
-) -> usize {
+) -> usize
+    requires { ⌜ n + length (from 12 (now v) (rangedOf (now v) ∷ listed g (now v))) ≤ least3 (now tags)
+        (now numbers) (now values) ⌝ }
+    ensures { λ r. ⌜ Laid (from 12 (now (v .entry)) (rangedOf (now (v .entry)) ∷ listed g (now (v .entry)))) n
+        (now (tags .entry)) (now (numbers .entry)) (now (values .entry)) (now (tags .exit)) (now (numbers .exit))
+        (now (values .exit)) r ⌝ }
+{
     if v.len() < 12 {
         return n;
     }

@@ -2,7 +2,7 @@
 -- nothing.
 --     laid-append, length-laid     events one after the other; the length is as it was
 --     laid-front                   from the front on, item by item
---     laid-tags, ..                events that are numbers
+--     laid-tags, laid-echoes, ..   events that are numbers, or entries
 --     laid-none, and-then, ..      what calls leave that store events
 use Prim.Native.Nat.{ℕ, suc, _+_}
 use mathlib.Core.Path.{_≡_, refl, sym, ap, _∙_}
@@ -11,8 +11,9 @@ use native.Mathlib.Nat.{add-zero}
 use native.Mathlib.Omega.{arith}
 use lib.ListN.{length, set, length-set, length-append, length-map}
 use lib.Seq.{sets}
+use Rattle.def_standard.specs.declared.Echo.{Echo}
 use Rattle.def_portions.specs.declared.Event.{Event}
-use Rattle.def_portions.specs.declared.Event.the-variants.{Number}
+use Rattle.def_portions.specs.declared.Event.the-variants.{Number, Entry}
 use Rattle.def_portions.specs.Lists.{Part, keeps, puts, tagOf, tagPart, numberPart, valuePart, putAt, laid}
 use Rattle.event_lists.specs.Laid.{Laid, numberTags}
 
@@ -84,6 +85,14 @@ unfolding laid valuePart
 laid-values [] n l = refl
 laid-values (x ∷ xs) n l = laid-values xs (suc n) l
 
+-- ---- events that are entries
+
+-- they have no numbers
+laid-echoes : (xs : List Echo) (n : ℕ) (l : List ℕ) → laid numberPart (map Entry xs) n l ≡ l
+unfolding laid numberPart
+laid-echoes [] n l = refl
+laid-echoes (x ∷ xs) n l = laid-echoes xs (suc n) l
+
 -- ---- what calls leave
 
 -- nothing was stored
@@ -126,6 +135,17 @@ laid-word xs {n} {v = v} e f g =
       numbers = f;
       values = sym (laid-values xs n v);
       past = rw (length-map xs Number) g;
+    }
+
+-- entries were stored: in two lists
+pub laid-entries : (xs : List Echo) {n n1 : ℕ} {t u v t1 v1 : List ℕ} → t1 ≡ laid tagPart (map Entry xs) n t
+    → v1 ≡ laid valuePart (map Entry xs) n v → n1 ≡ n + length xs → Laid (map Entry xs) n t u v t1 u v1 n1
+laid-entries xs {n} {u = u} e f g =
+    record {
+      tags = e;
+      numbers = sym (laid-echoes xs n u);
+      values = f;
+      past = rw (length-map xs Entry) g;
     }
 
 -- one event was stored, known by its parts
