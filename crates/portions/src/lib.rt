@@ -60,6 +60,24 @@ fn put_item(
     }
 }
 
+// Stores the packet's end, where a state is over.
+fn put_end(
+    st: Portions,
+    tags: &mut [u64],
+    numbers: &mut [u16],
+    values: &mut [u64],
+    n: usize,
+) -> usize
+    requires { ⌜ n + length (endIn st) ≤ least3 (now tags) (now numbers) (now values) ⌝ }
+    ensures { λ r. ⌜ Laid (endIn st) n (now (tags .entry)) (now (numbers .entry)) (now (values .entry))
+        (now (tags .exit)) (now (numbers .exit)) (now (values .exit)) r ⌝ }
+{
+    if st.item == states::OVER {
+        return event_lists::put(tags, numbers, values, n, Event::End);
+    }
+    n
+}
+
 // Stores the events of an item that may be complete, and answers the state behind it and the index past them.
 fn put_settled(
     st: Portions,
@@ -83,16 +101,10 @@ fn put_settled(
         Checked::Fine => {
             let past = put_item(st, tags, numbers, values, n);
             let next = steps::passed(st);
-            if next.item == states::OVER {
-                let end = event_lists::put(tags, numbers, values, past, Event::End);
-                return Settled {
-                    state: next,
-                    events: end,
-                };
-            }
+            let end = put_end(next, tags, numbers, values, past);
             Settled {
                 state: next,
-                events: past,
+                events: end,
             }
         }
         Checked::Unfit(_) => Settled {
@@ -143,29 +155,14 @@ fn whole_block(s: Portions, x: &[u8], at: usize) -> usize
     }
 }
 
-// The packet's end, where a state is over: how many events that is.
+// How many events the packet's end is: one, where a state is over.
 fn ends(st: Portions) -> usize
     ensures { λ r. ⌜ r ≡ length (endIn st) ⌝ }
 {
-    if st.item == states::OVER { 1 } else { 0 }
-}
-
-// Stores the packet's end, where a state is over.
-fn put_end(
-    st: Portions,
-    tags: &mut [u64],
-    numbers: &mut [u16],
-    values: &mut [u64],
-    n: usize,
-) -> usize
-    requires { ⌜ n + length (endIn st) ≤ least3 (now tags) (now numbers) (now values) ⌝ }
-    ensures { λ r. ⌜ Laid (endIn st) n (now (tags .entry)) (now (numbers .entry)) (now (values .entry))
-        (now (tags .exit)) (now (numbers .exit)) (now (values .exit)) r ⌝ }
-{
-    if st.item == states::OVER {
-        return event_lists::put(tags, numbers, values, n, Event::End);
+    if st.item != states::OVER {
+        return 0;
     }
-    n
+    1
 }
 
 // A whole block of so many bytes, at once.
@@ -248,10 +245,10 @@ fn put_whole(
 {
     let next = steps::next_block(s.known, utils::above(s.behind, l - 4));
     let past = block_events::put_block(utils::part(x, at, l), tags, numbers, values, n);
-    let end = put_end(next, tags, numbers, values, past);
+    let all = put_end(next, tags, numbers, values, past);
     Turn {
         state: next,
-        events: end,
+        events: all,
         taken: l,
     }
 }
