@@ -27,7 +27,6 @@ use Rattle.states.proofs.RunLaws.{item-after, item-shows}
 use Rattle.steps.proofs.HeldLaws.{length-part}
 use Rattle.followed.proofs.ValueLaws.{bytes-take, bytes-drop}
 use Rattle.followed.proofs.WholeBlock.{block-after, block-shows, fault-four, length-four}
-use Rattle.portions.specs.declared.Turn.{Turn}
 use Rattle.portions.specs.Turn.{WholeAt, Turned, TurnCounted, TurnStored}
 
 -- a part, and what is behind it
@@ -101,22 +100,23 @@ be32-part x at n h =
     ap₂ (λ (a b : ℕ). a * 65536 + b) (rw (add-zero) at i) (be16-part at n x 2 (omega arith))
 
 -- what they say: the block is there
-module _ (s : Portions) (x : List ℕ) (at l w : ℕ) (u : Bytes x) (e : w ≡ be32 x at) (r : l ≡ blockLength (four w)) where
-  pub whole-at : s ≡ state block 4 0 0 (s .behind) (s .known) → 4 ≤ l → at + l ≤ length x
-      → blockFault (s .behind + 4) (four w) ≡ Fine → WholeAt s x at l
-  whole-at i h o f =
-      let v = part x at l in
-      let b : Bytes v = bytes-take l (drop at x) (bytes-drop at x u) in
-      let q : 4 ≤ length v = omega (arith, length-part x at l o) in
-      let a : be32 v 0 ≡ w = be32-part x at l h ∙ sym e in
-      record {
-        fresh = i;
-        some = h;
-        fits = o;
-        bytes = b;
-        long = sym (length-four v b q) ∙ ap (λ (j : ℕ). blockLength (four j)) a ∙ sym r;
-        fine = sym (fault-four (s .behind + 4) v b q) ∙ ap (λ (j : ℕ). blockFault (s .behind + 4) (four j)) a ∙ f;
-      }
+module _ (s : Portions) (x : List ℕ) (at l w : ℕ) (u : Bytes x) (e : w ≡ be32 x at) (r : l ≡ blockLength (four w))
+  where
+    pub whole-at : s ≡ state block 4 0 0 (s .behind) (s .known) → 4 ≤ l → at + l ≤ length x
+        → blockFault (s .behind + 4) (four w) ≡ Fine → WholeAt s x at l
+    whole-at i h o f =
+        let v = part x at l in
+        let b : Bytes v = bytes-take l (drop at x) (bytes-drop at x u) in
+        let q : 4 ≤ length v = omega (arith, length-part x at l o) in
+        let a : be32 v 0 ≡ w = be32-part x at l h ∙ sym e in
+        record {
+          fresh = i;
+          some = h;
+          fits = o;
+          bytes = b;
+          long = sym (length-four v b q) ∙ ap (λ (j : ℕ). blockLength (four j)) a ∙ sym r;
+          fine = sym (fault-four (s .behind + 4) v b q) ∙ ap (λ (j : ℕ). blockFault (s .behind + 4) (four j)) a ∙ f;
+        }
 
 module _ {s : Portions} {x : List ℕ} {at l : ℕ} (w : WholeAt s x at l) where
   abbrev nextOne : Portions

@@ -1,6 +1,6 @@
 -- One turn of the loops over some bytes.
---     WholeAt     at an index the r bytes of a whole block begin, and the state s is before it
---     Turned      the bytes from an index on, so many of them first: their events es, and the state st behind them
+--     WholeAt         at an index the r bytes of a whole block begin, and the state s is before it
+--     Turned          from an index on, m bytes first: their events es, and the state st behind them
 --     TurnCounted     a turn whose events are counted
 --     TurnStored      a turn whose events are stored in three lists from index n on
 use Prim.Native.Nat.{ℕ, _+_, _≤_, _<_}
@@ -37,7 +37,8 @@ pub record TurnCounted (s : Portions) (x : List ℕ) (at : ℕ) (r : Turn) : Typ
   pub turn : Turned s x at shown (r .state) (r .taken)
   pub events : r .events ≡ length shown
 
-pub record TurnStored (s : Portions) (x : List ℕ) (at n : ℕ) (t u v : List ℕ) (r : Turn) (t′ u′ v′ : List ℕ) : Type 0 where
-  pub shown : List Event
-  pub turn : Turned s x at shown (r .state) (r .taken)
-  pub stored : Laid shown n t u v t′ u′ v′ (r .events)
+pub record TurnStored (s : Portions) (x : List ℕ) (at n : ℕ) (t u v : List ℕ) (r : Turn) (t′ u′ v′ : List ℕ) : Type 0
+  where
+    pub shown : List Event
+    pub turn : Turned s x at shown (r .state) (r .taken)
+    pub stored : Laid shown n t u v t′ u′ v′ (r .events)

@@ -36,11 +36,6 @@ module _ (st : Portions) (e : st .missing ≡ 0) where
   unfolding settled
   settled-fine f = rw (eq-eqb _ _ e, fault-is Fine f)
 
-  pub shown-le : faultOf st ≡ Fine → length (shownBy st) ≤ length (settledEvents st)
-  unfolding settledEvents
-  shown-le f =
-      rw (eq-eqb _ _ e, fault-is Fine f) (omega (arith, length-append (shownBy st) (endIn (passed st))))
-
   pub events-fine : faultOf st ≡ Fine → settledEvents st ≡ shownBy st ++ endIn (passed st)
   unfolding settledEvents
   events-fine f = rw (eq-eqb _ _ e, fault-is Fine f)
