@@ -2,13 +2,14 @@
 // state of fixed size goes in by value and comes back, and a call's events go into three lent lists. Nothing of the
 // packet is kept but the bytes of an item that is not complete.
 ghost use mathlib.Core.Path.{_≡_};
-ghost use Prim.Native.Nat.{_+_, _≤_};
-ghost use lib.ListN.{length};
+ghost use Prim.Native.Nat.{_+_, _≤_, _<_};
+ghost use lib.ListN.{length, drop};
 ghost use Rattle.def_questions.specs.Questions.{least3};
 ghost use Rattle.def_portions.specs.Calls.{roomFault};
-ghost use Rattle.states.specs.Steps.{after, shows, shownBy, settled, settledEvents};
+ghost use Rattle.states.specs.Steps.{after, shows, shownBy, settled, settledEvents, endIn};
 ghost use Rattle.event_lists.specs.Laid.{Laid};
 ghost use Rattle.states.specs.Call.{announcedBy, takenIn, pastBy, pastOf, callFault, Following};
+ghost use Rattle.portions.specs.Turn.{WholeAt, TurnCounted, TurnStored};
 use def_portions::Event;
 use def_refusals::Checked;
 use def_refusals::Refusal;
@@ -59,6 +60,24 @@ fn put_item(
     }
 }
 
+// Stores the packet's end, where a state is over.
+fn put_end(
+    st: Portions,
+    tags: &mut [u64],
+    numbers: &mut [u16],
+    values: &mut [u64],
+    n: usize,
+) -> usize
+    requires { ⌜ n + length (endIn st) ≤ least3 (now tags) (now numbers) (now values) ⌝ }
+    ensures { λ r. ⌜ Laid (endIn st) n (now (tags .entry)) (now (numbers .entry)) (now (values .entry))
+        (now (tags .exit)) (now (numbers .exit)) (now (values .exit)) r ⌝ }
+{
+    if st.item == states::OVER {
+        return event_lists::put(tags, numbers, values, n, Event::End);
+    }
+    n
+}
+
 // Stores the events of an item that may be complete, and answers the state behind it and the index past them.
 fn put_settled(
     st: Portions,
@@ -82,16 +101,10 @@ fn put_settled(
         Checked::Fine => {
             let past = put_item(st, tags, numbers, values, n);
             let next = steps::passed(st);
-            if next.item == states::OVER {
-                let end = event_lists::put(tags, numbers, values, past, Event::End);
-                return Settled {
-                    state: next,
-                    events: end,
-                };
-            }
+            let end = put_end(next, tags, numbers, values, past);
             Settled {
                 state: next,
-                events: past,
+                events: end,
             }
         }
         Checked::Unfit(_) => Settled {
@@ -99,6 +112,99 @@ fn put_settled(
             events: n,
         },
     }
+}
+
+// One turn over some bytes: the state behind those that it took, and how many events they show; where they are stored,
+// the index past them.
+struct Turn {
+    state: Portions,
+    events: usize,
+    taken: usize,
+}
+
+// The length of the block that begins at an index, where all of its bytes are there and nothing is wrong with it;
+// else 0.
+fn whole_block(s: Portions, x: &[u8], at: usize) -> usize
+    requires { ⌜ at ≤ length (now x) ⌝ }
+    ensures { λ r. ⌜ ((r ≡ 0 → ⊥) → WholeAt s (now (x .entry)) at r) ⌝ }
+{
+    if s.item != states::BLOCK {
+        return 0;
+    }
+    if s.missing != 4 {
+        return 0;
+    }
+    if s.held != 0 {
+        return 0;
+    }
+    if s.rest != 0 {
+        return 0;
+    }
+    let left = x.len() - at;
+    if left < 4 {
+        return 0;
+    }
+    let w = utils::load32(x, at);
+    let l = steps::length_of(w) as usize;
+    if left < l {
+        return 0;
+    }
+    match steps::block_fault(s.behind, w) {
+        Checked::Fine => l,
+        Checked::Unfit(_) => 0,
+    }
+}
+
+// How many events the packet's end is: one, where a state is over.
+fn ends(st: Portions) -> usize
+    ensures { λ r. ⌜ r ≡ length (endIn st) ⌝ }
+{
+    if st.item != states::OVER {
+        return 0;
+    }
+    1
+}
+
+// A whole block of so many bytes, at once.
+fn count_whole(s: Portions, x: &[u8], at: usize, l: usize) -> Turn
+    requires { ⌜ length (shows s (drop at (now x))) ≤ 18446744073709551615 ⌝ }
+    requires { ⌜ WholeAt s (now x) at l ⌝ }
+    ensures { λ r. ⌜ TurnCounted s (now (x .entry)) at r ⌝ }
+{
+    let next = steps::next_block(s.known, utils::above(s.behind, l - 4));
+    let shown = block_events::count_block(utils::part(x, at, l));
+    Turn {
+        state: next,
+        events: shown + ends(next),
+        taken: l,
+    }
+}
+
+// The bytes of the item at hand.
+fn count_some(s: Portions, x: &[u8], at: usize) -> Turn
+    requires { ⌜ (s .missing ≡ 0 → ⊥) × (at < length (now x)) ⌝ }
+    ensures { λ r. ⌜ TurnCounted s (now (x .entry)) at r ⌝ }
+{
+    let m = utils::lesser(s.missing, x.len() - at);
+    let r = steps::settle(steps::hold(s, x, at, m));
+    let next = r.state;
+    Turn {
+        state: next,
+        events: r.events,
+        taken: m,
+    }
+}
+
+fn count_turn(s: Portions, x: &[u8], at: usize) -> Turn
+    requires { ⌜ length (shows s (drop at (now x))) ≤ 18446744073709551615 ⌝ }
+    requires { ⌜ (s .missing ≡ 0 → ⊥) × (at < length (now x)) ⌝ }
+    ensures { λ r. ⌜ TurnCounted s (now (x .entry)) at r ⌝ }
+{
+    let l = whole_block(s, x, at);
+    if l != 0 {
+        return count_whole(s, x, at, l);
+    }
+    count_some(s, x, at)
 }
 
 // How many events some bytes show. One pass over them, by arithmetic.
@@ -113,13 +219,83 @@ fn count(st: Portions, x: &[u8]) -> usize
         if s.missing == 0 {
             return n;
         }
-        let m = utils::lesser(s.missing, x.len() - at);
-        let r = steps::settle(steps::hold(s, x, at, m));
+        let r = count_turn(s, x, at);
         s = r.state;
         n += r.events;
-        at += m;
+        at += r.taken;
     }
     n
+}
+
+// The same with the events stored.
+fn put_whole(
+    s: Portions,
+    x: &[u8],
+    at: usize,
+    l: usize,
+    tags: &mut [u64],
+    numbers: &mut [u16],
+    values: &mut [u64],
+    n: usize,
+) -> Turn
+    requires { ⌜ n + length (shows s (drop at (now x))) ≤ least3 (now tags) (now numbers) (now values) ⌝ }
+    requires { ⌜ WholeAt s (now x) at l ⌝ }
+    ensures { λ r. ⌜ TurnStored s (now (x .entry)) at n (now (tags .entry)) (now (numbers .entry)) (now (values .entry)) r
+        (now (tags .exit)) (now (numbers .exit)) (now (values .exit)) ⌝ }
+{
+    let next = steps::next_block(s.known, utils::above(s.behind, l - 4));
+    let past = block_events::put_block(utils::part(x, at, l), tags, numbers, values, n);
+    let all = put_end(next, tags, numbers, values, past);
+    Turn {
+        state: next,
+        events: all,
+        taken: l,
+    }
+}
+
+fn put_some(
+    s: Portions,
+    x: &[u8],
+    at: usize,
+    tags: &mut [u64],
+    numbers: &mut [u16],
+    values: &mut [u64],
+    n: usize,
+) -> Turn
+    requires { ⌜ n + length (shows s (drop at (now x))) ≤ least3 (now tags) (now numbers) (now values) ⌝ }
+    requires { ⌜ (s .missing ≡ 0 → ⊥) × (at < length (now x)) ⌝ }
+    ensures { λ r. ⌜ TurnStored s (now (x .entry)) at n (now (tags .entry)) (now (numbers .entry)) (now (values .entry)) r
+        (now (tags .exit)) (now (numbers .exit)) (now (values .exit)) ⌝ }
+{
+    let m = utils::lesser(s.missing, x.len() - at);
+    let r = put_settled(steps::hold(s, x, at, m), tags, numbers, values, n);
+    let next = r.state;
+    Turn {
+        state: next,
+        events: r.events,
+        taken: m,
+    }
+}
+
+fn put_turn(
+    s: Portions,
+    x: &[u8],
+    at: usize,
+    tags: &mut [u64],
+    numbers: &mut [u16],
+    values: &mut [u64],
+    n: usize,
+) -> Turn
+    requires { ⌜ n + length (shows s (drop at (now x))) ≤ least3 (now tags) (now numbers) (now values) ⌝ }
+    requires { ⌜ (s .missing ≡ 0 → ⊥) × (at < length (now x)) ⌝ }
+    ensures { λ r. ⌜ TurnStored s (now (x .entry)) at n (now (tags .entry)) (now (numbers .entry)) (now (values .entry)) r
+        (now (tags .exit)) (now (numbers .exit)) (now (values .exit)) ⌝ }
+{
+    let l = whole_block(s, x, at);
+    if l != 0 {
+        return put_whole(s, x, at, l, tags, numbers, values, n);
+    }
+    put_some(s, x, at, tags, numbers, values, n)
 }
 
 // Stores the events of some bytes into lists that have room for them.
@@ -145,11 +321,10 @@ fn store(
                 events: n,
             };
         }
-        let m = utils::lesser(s.missing, x.len() - at);
-        let r = put_settled(steps::hold(s, x, at, m), tags, numbers, values, n);
+        let r = put_turn(s, x, at, tags, numbers, values, n);
         s = r.state;
         n = r.events;
-        at += m;
+        at += r.taken;
     }
     Settled {
         state: s,

@@ -36,10 +36,9 @@ module _ (st : Portions) (e : st .missing ≡ 0) where
   unfolding settled
   settled-fine f = rw (eq-eqb _ _ e, fault-is Fine f)
 
-  pub shown-le : faultOf st ≡ Fine → length (shownBy st) ≤ length (settledEvents st)
+  pub events-fine : faultOf st ≡ Fine → settledEvents st ≡ shownBy st ++ endIn (passed st)
   unfolding settledEvents
-  shown-le f =
-      rw (eq-eqb _ _ e, fault-is Fine f) (omega (arith, length-append (shownBy st) (endIn (passed st))))
+  events-fine f = rw (eq-eqb _ _ e, fault-is Fine f)
 
   -- the end is shown where the packet is over
   pub events-over : faultOf st ≡ Fine → passed st .item ≡ over → settledEvents st ≡ shownBy st ++ (End ∷ [])

@@ -82,7 +82,7 @@ fn second_byte(w: u32) -> u8
     (w / 65536 % 256) as u8
 }
 
-fn length_of(w: u32) -> u32
+pub fn length_of(w: u32) -> u32
     ensures { λ r. ⌜ r ≡ blockLength (four w) ⌝ }
     ensures { λ r. ⌜ (4 ≤ r) × (r ≤ 262144) ⌝ }
 {
