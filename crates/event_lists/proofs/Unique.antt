@@ -4,6 +4,7 @@ use mathlib.Core.Path.{sym, _∙_}
 use contract.Lifetimes.{Lfts}
 use Rattle.laws.proofs.Determined.{Fixes}
 use Rattle.event_lists.proofs.put.Reads as put
+use Rattle.event_lists.proofs.put_tags.Reads as put-tags
 use Rattle.event_lists.proofs.put_word.Reads as put-word
 use Rattle.event_lists.proofs.event_of.Reads as event-of
 
@@ -18,6 +19,9 @@ put-unique-numbers κs a r₁ r₂ s₁ s₂ p q = p .numbers ∙ sym (q .number
 
 pub put-unique-values : (κs : Lfts 3) → Fixes (put.Post κs) (λ r s. s .1 .1 .0 .now)
 put-unique-values κs a r₁ r₂ s₁ s₂ p q = p .values ∙ sym (q .values)
+
+pub put-tags-unique-tags : (κs : Lfts 1) → Fixes (put-tags.Post κs) (λ r s. s .0 .now)
+put-tags-unique-tags κs a r₁ r₂ s₁ s₂ p q = p ∙ sym q
 
 pub put-word-unique-tags : (κs : Lfts 2) → Fixes (put-word.Post κs) (λ r s. s .0 .now)
 put-word-unique-tags κs a r₁ r₂ s₁ s₂ p q = p .0 ∙ sym (q .0)

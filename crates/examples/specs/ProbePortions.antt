@@ -38,8 +38,9 @@ pub record OfPortions : Type 0 where
       × (answerTo 12 (gives 9 (1 ∷ []) []) ≡ says ("taken 0 events 0" ∷ []))
   -- a size over what is left gives what is left
   pub over :
-      answerTo 12 (gives 2 (7 ∷ 99 ∷ 4294967295 ∷ []) (packet []))
-      ≡ says ("taken 7 events 0" ∷ "header 8 1" ∷ "end" ∷ "taken 1 events 2" ∷ "taken 0 events 0" ∷ [])
+      (answerTo 12 (gives 2 (7 ∷ 99 ∷ 4294967295 ∷ []) (packet []))
+      ≡ says ("taken 7 events 0" ∷ "header 8 1" ∷ "end" ∷ "taken 1 events 2" ∷ "taken 0 events 0" ∷ []))
+      × (answerTo 12 (gives 2 (65536 ∷ []) (packet [])) ≡ says ("header 8 1" ∷ "end" ∷ "taken 8 events 2" ∷ []))
   -- behind 11 and 19 the next call begins at the same byte
   pub again :
       (answerTo 12 (gives 1 (8 ∷ 7 ∷ []) (packet []))
