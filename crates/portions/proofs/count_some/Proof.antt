@@ -13,9 +13,6 @@ start m = m .before .before
 bytes : (m : tie.After-lesser) → let a = start m .args in Taken (a .s) (a .x .now) (a .at) (m .lesser .result)
 bytes m = taken _ _ _ _ (start m .pre .0) (start m .pre .1) (m .lesser .ensures)
 
-hold-requires : tie.Need-hold-requires
-hold-requires c κs = bytes c .fits
-
 returns : tie.Need-returns
 returns c =
     let t = c .before in
@@ -25,4 +22,4 @@ returns c =
 pub count-some-spec : {M : Type 1} → statement M
 count-some-spec =
     tie.close
-    (tie.spec (λ c. search needs) (λ c κs. search needs) hold-requires (λ c κs. search needs) returns)
+    (tie.spec (λ c. search needs) (λ c κs. search needs) (λ c κs. search needs) (λ c κs. search needs) returns)

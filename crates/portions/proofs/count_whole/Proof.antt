@@ -17,9 +17,6 @@ shown : (c : tie.After-count-block) → let a = start (c .before .before) .args 
     c .count-block .result ≡ length (blockEvents (part (a .x .now) (a .at) (a .l)))
 shown c = c .count-block .ensures ∙ ap (λ v. length (blockEvents v)) (c .before .part .ensures .0)
 
-sub-above : tie.Need-sub-above
-sub-above c = omega (arith, c .before .pre .1 .some)
-
 add-t8 : tie.Need-add-t8
 add-t8 c =
     let k = c .before in
@@ -38,5 +35,5 @@ returns c =
 pub count-whole-spec : {M : Type 1} → statement M
 count-whole-spec =
     tie.close
-    (tie.spec sub-above (λ c κs. search needs) (λ c κs. search needs) (λ c κs. search needs) (λ c κs. search needs)
+    (tie.spec (λ c. search needs) (λ c κs. search needs) (λ c κs. search needs) (λ c κs. search needs) (λ c κs. search needs)
     (λ c κs. search needs) add-t8 returns)

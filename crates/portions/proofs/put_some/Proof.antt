@@ -11,9 +11,6 @@ start m = m .before .before .before .before .before
 bytes : (m : tie.After-lesser) → let a = start m .args in Taken (a .s) (a .x .now) (a .at) (m .lesser .result)
 bytes m = taken _ _ _ _ (start m .pre .1 .0) (start m .pre .1 .1) (m .lesser .ensures)
 
-hold-requires : tie.Need-hold-requires
-hold-requires c κs = bytes c .fits
-
 put-settled-requires : tie.Need-put-settled-requires
 put-settled-requires c κs =
     let h = c .before .before .before in
@@ -30,5 +27,5 @@ returns c =
 pub put-some-spec : {M : Type 1} → statement M
 put-some-spec =
     tie.close
-    (tie.spec (λ c. search needs) (λ c κs. search needs) hold-requires put-settled-requires (λ c. search needs)
+    (tie.spec (λ c. search needs) (λ c κs. search needs) (λ c κs. search needs) put-settled-requires (λ c. search needs)
     (λ c. search needs) (λ c. search needs) returns)

@@ -19,9 +19,6 @@ stored c = c .before .before .before .before .before .before
 abbrev part : tie.After-put-block → tie.After-part
 part p = p .before .before .before .before
 
-sub-above : tie.Need-sub-above
-sub-above c = omega (arith, c .before .before .before .before .pre .1 .some)
-
 put-block-requires : tie.Need-put-block-requires
 put-block-requires c κs =
     let q = c .before .before .before in
@@ -52,5 +49,5 @@ returns c =
 pub put-whole-spec : {M : Type 1} → statement M
 put-whole-spec =
     tie.close
-    (tie.spec sub-above (λ c κs. search needs) (λ c κs. search needs) (λ c κs. search needs) put-block-requires
+    (tie.spec (λ c. search needs) (λ c κs. search needs) (λ c κs. search needs) (λ c κs. search needs) put-block-requires
     put-end-requires (λ c. search needs) (λ c. search needs) (λ c. search needs) returns)

@@ -32,10 +32,14 @@ returns-7 c n =
     (w .load32 .ensures) (l .length-of .ensures .0) (fresh g) (l .length-of .ensures .1 .0)
     (omega (arith, s .pre, f .before .if6 .left)) (sym (f .block-fault .ensures) ∙ c .enum-told .given .1)
 
+-- a block that is refused is none
+returns-8 : tie.Need-returns-8
+returns-8 c n = absurd (n refl)
+
 pub whole-block-spec : {M : Type 1} → statement M
 whole-block-spec =
     tie.close
     (tie.spec (λ c n. absurd (n refl)) (λ c n. absurd (n refl)) (λ c n. absurd (n refl)) (λ c n. absurd (n refl))
     (λ c. search needs) (λ c n. absurd (n refl)) (λ c κs. search needs) (λ c κs. search needs) (λ c. search needs)
     (λ c n. absurd (n refl)) (λ c κs. search needs) (λ c. search needs) (λ c. search needs) returns-7
-    (λ c n. absurd (n refl)))
+    returns-8)
