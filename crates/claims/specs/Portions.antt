@@ -1,11 +1,9 @@
 -- A packet that comes in portions, by calls of `portions::follow` (RULES, "Packets in portions"). Nothing is asked of
--- a
--- call but its contract; each lends three lists of its own, t, u and v, and leaves t′, u′ and v′ in them.
+-- a call but its contract; each lends three lists of its own, t, u and v, and leaves t′, u′ and v′ in them.
 --     Reached         a state that calls gave, from `steps::start` on, and the bytes that they took
 --     CallShows       what the next call gives: what def_portions says of the bytes
 --     Fed             calls from a state on, none refused as 11 or 19. Their indices: the state, the refusal told
--- before
---                     them; the bytes that they gave, the events that they listed, joined, and the last refusal
+--                     before them; the bytes that they gave, the events that they listed, joined, and the last refusal
 --     Division        however the bytes are divided, these are the events and the refusal of all the bytes
 --     WholeReading    of a packet that the standard reads, they are what the reading functions answer of each block
 --     OneByte         room for 16,384 events is enough for one byte

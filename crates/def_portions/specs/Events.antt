@@ -101,8 +101,7 @@ blockEvents v = kindEvents (kindOf (typeOf v)) v
 
 -- the blocks of the bytes s from a place on, up to the announced length: nothing where the block before is not
 -- complete; the end where the packet is; else the block there, of its bytes so far, and those behind it. Blocks are
--- not
--- empty, so fuel of the length of s is enough
+-- not empty, so fuel of the length of s is enough
 unfoldable pub blocksFrom : List ℕ → ℕ → ℕ → ℕ → Course
 blocksFrom s stop zero at = quiet
 blocksFrom s stop (suc fuel) at =

@@ -1,6 +1,5 @@
 -- How three lent lists, side by side, hold events: the event at an index has its tag there, and its sequence number
--- and
--- its value, where it has one. What an event does not have is left as it was.
+-- and its value, where it has one. What an event does not have is left as it was.
 --     kind in the tag's lowest byte      tag beside it             number    value
 --     1 header                           length                              SSRC
 --     2 start                            type, L

@@ -1,9 +1,7 @@
 // Follows a stream of packets on standard input, as from a serial line or a pipe, and prints each event's line as
-// soon as
-// its bytes are there (RULES, "Packets in portions"). Behind a packet's end the next one begins. A refusal prints
-// `refused N A B` and ends the run, since the place of the next packet is lost; an input that ends inside a packet
-// prints
-// `cut`. Both then say so on standard error, by which ./xrfollow knows that the run ended badly.
+// soon as its bytes are there (RULES, "Packets in portions"). Behind a packet's end the next one begins. A refusal
+// prints `refused N A B` and ends the run, since the place of the next packet is lost; an input that ends inside a
+// packet prints `cut`. Both then say so on standard error, by which ./xrfollow knows that the run ended badly.
 use def_refusals::Checked;
 use libc::STDERR_FILENO;
 use libc::STDIN_FILENO;
@@ -15,8 +13,7 @@ const PIECE: usize = 4096;
 const TURNS: u64 = 18446744073709551615;
 
 // Where the stream stands: the packet's state, whether a byte of it has come, whether the run goes on, and what waits
-// in
-// the buffer.
+// in the buffer.
 struct Course {
     state: Portions,
     inside: bool,
