@@ -29,3 +29,4 @@ pub mod PastLaws
 pub mod CallLaws
 pub mod WholeBlock
 pub mod WholeLaws
+pub mod Worked

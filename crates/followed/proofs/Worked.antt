@@ -1,0 +1,41 @@
+-- Whole by computation: what the questions answer of a packet with a block of each kind, as events.
+use Prim.Native.Nat.{ℕ}
+use mathlib.Core.Path.{_≡_, refl}
+use mathlib.Core.List.{List, [], _∷_}
+use Rattle.def_wire.specs.Bytes.{pairUp}
+use Rattle.def_wire.specs.Packet.{placeOf}
+use Rattle.def_wire.specs.Block.{rleOf, rangedOf, kindOf, standardRule, fitness, checkOf, fieldsOf, timeOf}
+use Rattle.def_standard.specs.Chunks.{valuesIn}
+use Rattle.def_standard.specs.Range.{rangeOf, offsetOf, inside, numberOf}
+use Rattle.def_standard.specs.Standard.{valuesOf, numbersFrom, pairsFrom, echoesOf}
+use Rattle.def_questions.specs.Questions.{numbersShown, pairsShown, entriesShown}
+use Rattle.def_portions.specs.declared.Event.the-variants.{Header, Start, Ranged as RangedStart, Number, Pair}
+use Rattle.def_portions.specs.declared.Event.the-variants.{Entry, Time, End}
+use Rattle.followed.specs.Whole.{wholeOf, kindPart, partsFrom}
+
+-- a loss block thinned by 1, two times and one past the range, a clock, an echo, and a block of no kind
+abbrev packet : List ℕ
+packet =
+    128 ∷ 207 ∷ 0 ∷ 19 ∷ 0 ∷ 0 ∷ 0 ∷ 1 ∷ 1 ∷ 1 ∷ 0 ∷ 3 ∷ 0 ∷ 0 ∷ 0 ∷ 7 ∷ 0 ∷ 10 ∷ 0 ∷ 14 ∷ 64 ∷ 1 ∷ 224 ∷ 0 ∷ 3 ∷
+    0 ∷ 0 ∷ 5 ∷ 0 ∷ 0 ∷ 0 ∷ 7 ∷ 255 ∷ 255 ∷ 0 ∷ 1 ∷ 0 ∷ 0 ∷ 0 ∷ 100 ∷ 0 ∷ 0 ∷ 0 ∷ 200 ∷ 0 ∷ 0 ∷ 1 ∷ 44 ∷ 4 ∷ 0 ∷ 0
+    ∷ 2 ∷ 0 ∷ 0 ∷ 0 ∷ 0 ∷ 0 ∷ 0 ∷ 0 ∷ 9 ∷ 5 ∷ 0 ∷ 0 ∷ 3 ∷ 0 ∷ 0 ∷ 0 ∷ 1 ∷ 0 ∷ 0 ∷ 0 ∷ 2 ∷ 0 ∷ 0 ∷ 0 ∷ 3 ∷ 99 ∷ 0 ∷
+    0 ∷ 0 ∷ []
+
+whole-packet : wholeOf packet 5
+    ≡ Header 80 1
+    ∷ RangedStart 1 16 (record { ssrc = 7; begin = 10; end = 14; thinning = 1 })
+    ∷ Number 10
+    ∷ Number 12
+    ∷ RangedStart 3 24 (record { ssrc = 7; begin = 65535; end = 1; thinning = 0 })
+    ∷ Pair (record { number = 65535; time = record { 0 = 100 } })
+    ∷ Pair (record { number = 0; time = record { 0 = 200 } })
+    ∷ Start 4 12
+    ∷ Time (record { 0 = 9 })
+    ∷ Start 5 16
+    ∷ Entry (record { ssrc = 1; last = record { 0 = 2 }; delay = record { 0 = 3 } })
+    ∷ Start 99 4
+    ∷ End
+    ∷ []
+unfolding pairUp placeOf rleOf rangedOf kindOf standardRule fitness checkOf fieldsOf timeOf valuesIn rangeOf offsetOf
+    inside numberOf valuesOf numbersFrom pairsFrom echoesOf numbersShown pairsShown entriesShown kindPart partsFrom
+whole-packet = refl
