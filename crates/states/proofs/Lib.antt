@@ -1,2 +1,3 @@
--- RunLaws (some bytes at once).
+-- RunLaws (some bytes at once), Worked (the steps by computation).
 pub mod RunLaws
+pub mod Worked
