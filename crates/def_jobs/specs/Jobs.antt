@@ -4,7 +4,7 @@
 --     jobsFault     12, with the index of the first bad record
 --     askedOf       what a record asks to be shown
 use Prim.Native.Nat.{ℕ, zero, suc, _+_, _*_, _-_, _%_}
-use mathlib.Core.Bool.{Bool, false, cond, _&&_}
+use mathlib.Core.Bool.{Bool, false, cond, not, _&&_}
 use mathlib.Core.List.{List, [], _∷_}
 use lib.ListN.{length, take, drop}
 use lib.Dec.{leb, eqb}
@@ -17,7 +17,7 @@ use Rattle.def_wire.specs.declared.Ranged.the-variants.{Chunks, Times}
 use Rattle.def_wire.specs.declared.Kind.the-variants.{Spans, Clock, Echoes}
 use Rattle.def_wire.specs.declared.KindOr.{KindOr}
 use Rattle.def_wire.specs.declared.KindOr.the-variants.{AKind, NoKind}
-use Rattle.def_wire.specs.Block.{kindOf}
+use Rattle.def_wire.specs.Block.{lostRun, has, kindOf}
 use Rattle.def_standard.specs.Range.{rangeOf}
 use Rattle.def_standard.specs.Standard.{numbersOf, pairsOf, echoesOf}
 use Rattle.def_jobs.specs.Shown.{Record, reported, received, clocked, echoed, bare}
@@ -99,9 +99,15 @@ abbrev pub hasFields : Job → ℕ → Bool
 hasFields j bytes = leb 10 (length (j .body)) && (leb (jobFields j .thinning) 15 && eqb
     ((length (j .body) - 10) % bytes) 0)
 
--- a record's kind is the type number of the block that it asks for
+abbrev pub jobWords : Job → List ℕ
+jobWords j = low16 (drop 10 (j .body))
+
+abbrev pub jobTimes : Job → List ℕ
+jobTimes j = low32 (drop 10 (j .body))
+
+-- a record's kind is the type number of the block that it asks for; no word may be a run of ones of no length
 abbrev pub isBody : KindOr → Job → Bool
-isBody (AKind (Spans (Chunks a))) j = hasFields j 2
+isBody (AKind (Spans (Chunks a))) j = hasFields j 2 && not (has lostRun (jobWords j))
 isBody (AKind (Spans Times)) j = hasFields j 4
 isBody (AKind Clock) j = eqb (length (j .body)) 8
 isBody (AKind Echoes) j = eqb (length (j .body) % 12) 0
@@ -118,12 +124,6 @@ isGood (suc i) j = isBlockJob j
 unfoldable pub jobsFault : ℕ → List Job → Checked
 jobsFault i [] = Fine
 jobsFault i (j ∷ js) = cond (isGood i j) (jobsFault (suc i) js) (Unfit (BadRecord i))
-
-abbrev pub jobWords : Job → List ℕ
-jobWords j = low16 (drop 10 (j .body))
-
-abbrev pub jobTimes : Job → List ℕ
-jobTimes j = low32 (drop 10 (j .body))
 
 -- what a record asks to be shown: the standard reading of its own words
 abbrev pub askedAs : KindOr → Job → Record

@@ -3,11 +3,12 @@
 --     headFault       what the packet's first four bytes show: 1, 2, 3, 18
 --     blockFault      what a block's first four bytes show: 6, 7
 --     blockEvents     the events of one block, of its bytes so far
+--     blockThen       one block and what comes behind it: it ends at a run of no length, 7
 --     courseOf        the events of all bytes so far, and the refusal that they end with
-use Prim.Native.Nat.{ℕ, zero, suc, _+_, _-_}
+use Prim.Native.Nat.{ℕ, zero, suc, _+_, _*_, _-_}
 use mathlib.Core.Bool.{Bool, true, false, cond, not}
 use mathlib.Core.List.{List, [], _∷_, _++_, map}
-use lib.ListN.{length, drop}
+use lib.ListN.{length, take, drop}
 use lib.Dec.{ltb, leb, eqb}
 use Rattle.def_refusals.specs.declared.Refusal.{Refusal}
 use Rattle.def_refusals.specs.declared.Refusal.the-variants.{TooShort, WrongVersion, WrongPacketType, Padded}
@@ -23,7 +24,8 @@ use Rattle.def_wire.specs.declared.KindOr.{KindOr}
 use Rattle.def_wire.specs.declared.KindOr.the-variants.{AKind, NoKind}
 use Rattle.def_wire.specs.Bytes.{byteAt}
 use Rattle.def_wire.specs.Packet.{versionOf, isPadded, announcedOf, ssrcOf, lengthAt, part}
-use Rattle.def_wire.specs.Block.{typeOf, blockLength, fieldsAt, timeAt, kindOf, standardRule}
+use Rattle.def_wire.specs.Block.{typeOf, blockLength, fieldsAt, wordsAt, timeAt, kindOf, standardRule, lostRun}
+use Rattle.def_wire.specs.Block.{wordRule}
 use Rattle.def_standard.specs.Standard.{standardNumbers, standardPairs, entriesOf}
 use Rattle.def_portions.specs.declared.Event.{Event}
 use Rattle.def_portions.specs.declared.Event.the-variants.{Header, Start, Ranged as RangedStart, Number, Pair}
@@ -99,6 +101,31 @@ kindEvents NoKind v = startOf v ∷ []
 abbrev pub blockEvents : List ℕ → List Event
 blockEvents v = kindEvents (kindOf (typeOf v)) v
 
+-- how many words stand before the first run of no length; all of them, where there is none
+unfoldable pub clearWords : List ℕ → ℕ
+clearWords [] = 0
+clearWords (w ∷ ws) = cond (eqb w lostRun) 0 (suc (clearWords ws))
+
+-- a block's bytes before that word: of types 1 and 2
+abbrev pub clearPart : KindOr → List ℕ → List ℕ
+clearPart (AKind (Spans (Chunks a))) v = take (12 + 2 * clearWords (wordsAt v)) v
+clearPart (AKind (Spans Times)) v = v
+clearPart (AKind Clock) v = v
+clearPart (AKind Echoes) v = v
+clearPart NoKind v = v
+
+-- 7, where that word has come
+abbrev pub lostFault : KindOr → List ℕ → Checked
+lostFault (AKind k) v = wordRule k (blockLength v) v
+lostFault NoKind v = Fine
+
+-- a block, of its bytes so far, and then a course
+unfoldable pub kindThen : KindOr → List ℕ → Course → Course
+kindThen kd v c = then (kindEvents kd (clearPart kd v)) (unless (lostFault kd v) c)
+
+abbrev pub blockThen : List ℕ → Course → Course
+blockThen v c = kindThen (kindOf (typeOf v)) v c
+
 -- the blocks of the bytes s from a place on, up to the announced length: nothing where the block before is not
 -- complete; the end where the packet is; else the block there, of its bytes so far, and those behind it. Blocks are
 -- not empty, so fuel of the length of s is enough
@@ -109,7 +136,7 @@ blocksFrom s stop (suc fuel) at =
     (cond (leb stop at) (course (End ∷ []) Fine)
     (cond (ltb (length s) (at + 4)) quiet
     (unless (blockFault (stop - at) (drop at s))
-    (then (blockEvents (part s at (lengthAt s at))) (blocksFrom s stop fuel (at + lengthAt s at))))))
+    (blockThen (part s at (lengthAt s at)) (blocksFrom s stop fuel (at + lengthAt s at))))))
 
 -- the bytes s of a packet that have come so far
 unfoldable pub courseOf : List ℕ → Course

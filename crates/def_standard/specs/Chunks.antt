@@ -44,10 +44,11 @@ chunkOf w =
 abbrev pub within : ℕ → ℕ → ℕ → MadeWord
 within value limit w = cond (leb value limit) (Word w) (Unmade (ValueTooLarge value))
 
+-- a run of ones of no length is no word to send: 13 with 0
 unfoldable pub wordOf : Chunk → MadeWord
 wordOf Null = Word 0
 wordOf (Skip n) = within n 16383 n
-wordOf (Run n) = within n 16383 (16384 + n)
+wordOf (Run n) = cond (eqb n 0) (Unmade (ValueTooLarge 0)) (within n 16383 (16384 + n))
 wordOf (Vector v) = within v 32767 (32768 + v)
 
 abbrev pub bytesOfMade : MadeWord → Or (List ℕ)

@@ -5,8 +5,8 @@ use mathlib.Core.Bool.{Bool, _&&_}
 use mathlib.Core.List.{List, [], _∷_, _++_}
 use lib.ListN.{drop}
 use lib.Dec.{eqb}
-use Rattle.def_wire.specs.Bytes.{words16, words32}
-use Rattle.def_wire.specs.Block.{fieldsAt}
+use Rattle.def_wire.specs.Bytes.{words32}
+use Rattle.def_wire.specs.Block.{fieldsAt, wordsAt}
 use Rattle.def_standard.specs.declared.Range.{Range}
 use Rattle.def_standard.specs.declared.Receipt.{Receipt}
 use Rattle.def_standard.specs.declared.Echo.{Echo}
@@ -50,7 +50,7 @@ echoesOf (s ∷ l ∷ d ∷ rest) = record { ssrc = s; last = record { 0 = l }; 
 
 -- a block's chunk words and its times stand from byte 12 on; its entries from byte 4 on
 abbrev pub standardWords : List ℕ → List ℕ
-standardWords v = words16 (drop 12 v)
+standardWords v = wordsAt v
 
 abbrev pub standardNumbers : List ℕ → List ℕ
 standardNumbers v = numbersOf (rangeOf (fieldsAt v)) (standardWords v)

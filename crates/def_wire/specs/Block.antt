@@ -5,17 +5,19 @@
 --     headerData    the four header bytes
 --     fieldsAt      SSRC, begin, end, thinning of types 1 to 3
 --     kindOf        the kind of a type number: types 1 to 5 have one
+--     wordsAt       the chunk words of types 1 and 2
 --     fitness       whether a block of a kind is fit to be read: refusal 7
 --     checkOf       the block is of the asked kind (10) and fit to be read (7)
 --     fieldsOf, timeOf     the answers to the questions for fields and time
 use Prim.Native.Nat.{ℕ, _+_, _-_, _%_}
-use mathlib.Core.Bool.{Bool, true, false, cond}
+use mathlib.Core.Bool.{Bool, true, false, cond, not, _||_}
 use mathlib.Core.List.{List, [], _∷_}
-use lib.ListN.{length}
+use lib.ListN.{length, drop}
 use lib.Dec.{ltb, leb, eqb}
 use Rattle.def_refusals.specs.declared.Refusal.the-variants.{OtherType, BadBlockLength, NoFields}
 use Rattle.def_refusals.specs.declared.Checked.{Checked}
 use Rattle.def_refusals.specs.declared.Checked.the-variants.{Fine, Unfit}
+use Rattle.def_refusals.specs.Answers.{thenCheck}
 use Rattle.def_wire.specs.declared.Reading.{Reading}
 use Rattle.def_wire.specs.declared.Reading.the-variants.{Standard, Crate}
 use Rattle.def_wire.specs.declared.Rle.{Rle}
@@ -36,7 +38,7 @@ use Rattle.def_wire.specs.declared.FieldsOr.the-variants.{Shown, NoneOf}
 use Rattle.def_wire.specs.declared.LongTime.{LongTime}
 use Rattle.def_wire.specs.declared.TimeOr.{TimeOr}
 use Rattle.def_wire.specs.declared.TimeOr.the-variants.{Time, NoTime}
-use Rattle.def_wire.specs.Bytes.{byteAt, be16, be32, be64}
+use Rattle.def_wire.specs.Bytes.{byteAt, be16, be32, be64, words16}
 use Rattle.def_wire.specs.Packet.{lengthAt}
 
 -- type, specific byte, and the length field's two bytes
@@ -56,6 +58,10 @@ blockLength v = lengthAt v 0
 -- types 1 to 3: the low four bits of the specific byte are the thinning (RFC 3611, 4.1)
 abbrev pub fieldsAt : List ℕ → Fields
 fieldsAt v = record { ssrc = be32 v 4; begin = be16 v 8; end = be16 v 10; thinning = specificOf v % 16 }
+
+-- types 1 and 2: 16-bit words from byte 12 on (RFC 3611, 4.1)
+abbrev pub wordsAt : List ℕ → List ℕ
+wordsAt v = words16 (drop 12 v)
 
 -- type 4: a 64-bit time at 4 (RFC 3611, 4.4)
 abbrev pub timeAt : List ℕ → LongTime
@@ -125,6 +131,27 @@ standardRule (Spans g) l = rule (leb 12 l) 12 l
 standardRule Clock l = rule (eqb l 12) 12 l
 standardRule Echoes l = rule (eqb ((l - 4) % 12) 0) (nextFit l) l
 
+-- the word of a run of ones of no length (RFC 3611, 4.1.1): one that its sender's encoder wrote when it had lost its
+-- place
+abbrev pub lostRun : ℕ
+lostRun = 16384
+
+-- whether a word is among some words
+unfoldable pub has : ℕ → List ℕ → Bool
+has w [] = false
+has w (x ∷ xs) = eqb x w || has w xs
+
+-- the words of a block of L bytes hold no such run, wherever they stand; else 7
+unfoldable pub clearRule : ℕ → List ℕ → Checked
+clearRule l ws = rule (not (has lostRun ws)) 12 l
+
+-- standard, then: of types 1 and 2, the words
+abbrev pub wordRule : Kind → ℕ → List ℕ → Checked
+wordRule (Spans (Chunks a)) l v = clearRule l (wordsAt v)
+wordRule (Spans Times) l v = Fine
+wordRule Clock l v = Fine
+wordRule Echoes l v = Fine
+
 -- crate: types 1 and 2 need L ≥ 12, type 3 needs nothing, type 4 needs left ≥ 12, type 5 needs left ≥ 16 and then L
 -- divisible
 -- by 16 (RULES, "Crate reading")
@@ -136,7 +163,7 @@ crateRule Echoes l left = cond (leb 16 left) (rule (eqb (l % 16) 0) (l + l % 16)
 
 -- whether the block v, asked as a kind, is fit to be read
 unfoldable pub fitness : Reading → Kind → List ℕ → Checked
-fitness Standard k v = standardRule k (length v)
+fitness Standard k v = thenCheck (standardRule k (length v)) (wordRule k (length v) v)
 fitness Crate k v = crateRule k (blockLength v) (length v)
 
 -- 10, then 7

@@ -20,7 +20,7 @@ use Rattle.def_wire.specs.declared.KindOr.the-variants.{AKind, NoKind}
 use Rattle.def_wire.specs.declared.Fields.{Fields}
 use Rattle.def_wire.specs.Bytes.{four, eight}
 use Rattle.def_wire.specs.Packet.{announcedOf}
-use Rattle.def_wire.specs.Block.{typeOf, specificOf, blockLength, fieldsAt, kindOf, receiptType}
+use Rattle.def_wire.specs.Block.{typeOf, specificOf, blockLength, fieldsAt, kindOf, receiptType, clearRule}
 use Rattle.def_standard.specs.Chunks.{coversOf, valuesIn}
 use Rattle.def_standard.specs.Range.{rangeOf, numberOf}
 use Rattle.def_standard.specs.Standard.{receipt}
@@ -118,11 +118,12 @@ whereFine (Unfit x) n = 0
 abbrev pub goodLength : List ℕ → ℕ
 goodLength v = whereFine (headFault v) (announcedOf v)
 
--- of a complete item: the packet's first four bytes, or a block's
+-- of a complete item: the packet's first four bytes, a block's, or a word that is a run of no length
 abbrev pub itemFault : Portions → Checked
 itemFault st =
     cond (eqb (st .item) head) (headFault (four (low32 (st .held))))
-    (cond (eqb (st .item) block) (blockFault (st .behind + 4) (four (low32 (st .held)))) Fine)
+    (cond (eqb (st .item) block) (blockFault (st .behind + 4) (four (low32 (st .held))))
+    (cond (eqb (st .item) word) (clearRule (blockLength (four (st .known .block))) (low16 (st .held) ∷ [])) Fine))
 
 unfoldable pub faultOf : Portions → Checked
 faultOf st = cond (eqb (st .missing) 0) (itemFault st) Fine
