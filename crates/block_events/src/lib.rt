@@ -5,20 +5,23 @@ ghost use mathlib.Core.List.{_∷_, map};
 ghost use Prim.Native.Nat.{_+_, _≤_};
 ghost use lib.ListN.{length, drop};
 ghost use Rattle.def_wire.specs.Bytes.{words16, words32};
-ghost use Rattle.def_wire.specs.Block.{typeOf, blockLength};
+ghost use Rattle.def_wire.specs.Block.{typeOf, blockLength, kindOf};
 ghost use Rattle.def_standard.specs.Standard.{numbersOf, entriesOf};
 ghost use Rattle.def_questions.specs.Questions.{least3};
-ghost use Rattle.def_portions.specs.Events.{blockEvents, from, rangedOf, listed};
+ghost use Rattle.def_portions.specs.Events.{blockEvents, from, rangedOf, listed, lostFault};
 ghost use Rattle.def_portions.specs.Lists.{tagPart, numberPart, valuePart, laid};
 ghost use Rattle.event_lists.specs.Laid.{Laid};
 ghost use Rattle.packet_receipt_time.specs.Pairs.{stepped};
 use def_portions::Event;
 use def_refusals::Answer;
+use def_refusals::Checked;
+use def_refusals::Refusal;
 use def_standard::Range;
 use def_wire::Kind;
 use def_wire::KindOr;
 use def_wire::LongTime;
 use def_wire::Ranged;
+use def_wire::RleOr;
 
 // A block's type, and its length by its header.
 fn type_of(v: &[u8]) -> u8
@@ -58,6 +61,21 @@ pub fn count_block(v: &[u8]) -> usize
             Kind::Echoes => 1 + dlrr::count(v),
         },
         KindOr::NoKind => 1,
+    }
+}
+
+// 7, where a run of no length is among the words of a block of type 1 or 2, of its bytes so far.
+pub fn lost_fault(v: &[u8]) -> Checked
+    ensures { λ r. ⌜ r ≡ lostFault (kindOf (typeOf (now (v .entry)))) (now (v .entry)) ⌝ }
+{
+    match records::rle_of(type_of(v)) {
+        RleOr::AnRle(_) => {
+            if word_scan::has_lost_run(utils::part(v, 12, v.len())) {
+                return Checked::Unfit(Refusal::BadBlockLength(12, length_of(v) as usize));
+            }
+            Checked::Fine
+        }
+        RleOr::NoRle => Checked::Fine,
     }
 }
 

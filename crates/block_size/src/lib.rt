@@ -1,8 +1,10 @@
 // The block that a record asks for: whether the record is good, and how many bytes its block has (RULES, "Job lists and
 // writing").
 ghost use mathlib.Core.Path.{_≡_};
+ghost use mathlib.Core.Bool.{not, _&&_};
 ghost use Prim.Native.Nat.{_≤_};
 ghost use lib.ListN.{length, drop};
+ghost use Rattle.def_wire.specs.Block.{lostRun, has};
 ghost use Rattle.def_jobs.specs.Jobs.{low16, hasFields, isBlockJob};
 ghost use Rattle.def_jobs.specs.Layout.{zerosBehind, blockBytes};
 ghost use Rattle.jobs.specs.Places.{jobOf};
@@ -24,6 +26,17 @@ fn has_fields(body: &[u8], bytes: usize) -> bool
         return false;
     }
     (body.len() - 10) % bytes == 0
+}
+
+// Fields and words of which none is a run of ones of no length (RULES, "Job lists and writing").
+fn has_words(body: &[u8]) -> bool
+    ensures { λ r. ⌜ r ≡ (hasFields (jobOf 1 (now (body .entry))) 2
+        && not (has lostRun (low16 (drop 10 (now (body .entry)))))) ⌝ }
+{
+    if has_fields(body, 2) {
+        return !word_scan::has_lost_run_low(utils::part(body, 10, body.len()));
+    }
+    false
 }
 
 // How many zero words the layout puts behind the words of a body of kind 1 or 2.
@@ -75,7 +88,7 @@ pub fn judged_size(layout: Layout, kind: u16, body: &[u8]) -> usize
         KindOr::AKind(k) => match k {
             Kind::Spans(g) => match g {
                 Ranged::Chunks(_) => {
-                    if has_fields(body, 2) {
+                    if has_words(body) {
                         body.len() + 2 + zeros_behind(layout, body) * 2
                     } else {
                         0

@@ -150,7 +150,10 @@ fn whole_block(s: Portions, x: &[u8], at: usize) -> usize
         return 0;
     }
     match steps::block_fault(s.behind, w) {
-        Checked::Fine => l,
+        Checked::Fine => match block_events::lost_fault(utils::part(x, at, l)) {
+            Checked::Fine => l,
+            Checked::Unfit(_) => 0,
+        },
         Checked::Unfit(_) => 0,
     }
 }

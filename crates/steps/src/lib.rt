@@ -198,6 +198,11 @@ pub fn fault(st: Portions) -> Checked
     if st.item == states::BLOCK {
         return block_fault(st.behind, low32(st.held));
     }
+    if st.item == states::WORD {
+        let k = st.known;
+        let l = length_of(k.block) as usize;
+        return rule(low16(st.held) != 0x4000, 12, l);
+    }
     Checked::Fine
 }
 

@@ -3,7 +3,7 @@
 --     fit-*                      the standard's fitness, kind by kind: the length, and of types 1 and 2 the words
 --     clear-fine, clear-lost     a rule that words meet, or do not; fine-clear, what it says where it is met
 --     has-*                      whether a word is among others: one by one, behind each other, by their indices
-use Prim.Native.Nat.{ℕ, zero, suc, _≤_, _<_}
+use Prim.Native.Nat.{ℕ, zero, suc, _<_}
 use mathlib.Core.Path.{_≡_, refl, sym, ap, _∙_}
 use mathlib.Core.Bool.{Bool, true, false, not, _||_}
 use mathlib.Core.List.{List, [], _∷_, _++_}
@@ -12,7 +12,6 @@ use lib.ListN.{length, getD, replicate}
 use lib.Dec.{eqb}
 use borrow.Author.Tests.{eqb-true, eqb-false, ne-eqb}
 use Rattle.laws.proofs.Tests.{either, true≢false}
-use Rattle.def_refusals.specs.declared.Refusal.{Refusal}
 use Rattle.def_refusals.specs.declared.Refusal.the-variants.{BadBlockLength}
 use Rattle.def_refusals.specs.declared.Checked.{Checked}
 use Rattle.def_refusals.specs.declared.Checked.the-variants.{Fine, Unfit}
@@ -56,6 +55,10 @@ module _ (v : List ℕ) where
 
 -- ---- words
 
+abbrev isFine : Checked → Bool
+isFine Fine = true
+isFine (Unfit y) = false
+
 module _ (l : ℕ) (ws : List ℕ) where
   pub clear-fine : has lostRun ws ≡ false → clearRule l ws ≡ Fine
   unfolding clearRule
@@ -67,14 +70,7 @@ module _ (l : ℕ) (ws : List ℕ) where
 
   ruled : (b : Bool) → rule (not b) 12 l ≡ Fine → b ≡ false
   ruled false e = refl
-  ruled true e = unfit e
-    where
-      abbrev isFine : Checked → Bool
-      isFine Fine = true
-      isFine (Unfit y) = false
-
-      unfit : Unfit (BadBlockLength 12 l) ≡ Fine → _≡_ {A = Bool} true false
-      unfit e = sym (ap isFine e)
+  ruled true e = sym (ap isFine e)
 
   pub fine-clear : clearRule l ws ≡ Fine → has lostRun ws ≡ false
   unfolding clearRule

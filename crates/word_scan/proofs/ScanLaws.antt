@@ -51,9 +51,9 @@ module _ (w : ℕ) (bytes : List ℕ) where
 same : (x y : ℕ) → x < 256 → y < 256 → eqb (x * 256 + y) lostRun ≡ eqb (x + y * 256) 64
 same x y h k =
     either (eqb (x + y * 256) 64)
-    (λ t. let e : x + y * 256 ≡ 64 = eqb-true _ _ t in eq-eqb _ _ (omega arith) ∙ sym t)
+    (λ t. let e : x + y * 256 ≡ 64 = eqb-true _ _ t in eq-eqb (x * 256 + y) 16384 (omega arith) ∙ sym t)
     (λ f. let n : x + y * 256 ≡ 64 → ⊥ = eqb-false _ _ f in
-    ne-eqb _ _ (λ (e : x * 256 + y ≡ 16384). n (omega arith)) ∙ sym f)
+    ne-eqb (x * 256 + y) 16384 (λ (e : x * 256 + y ≡ 16384). n (omega arith)) ∙ sym f)
 
 pub has-swapped : (s : List ℕ) → Bytes s → has lostRun (words16 s) ≡ has 64 (low16 s)
 unfolding pairUp pairLow
