@@ -1,14 +1,19 @@
--- What a packet's first four bytes show, by the tests that lead there: the one place that unfolds `headFault`. Assumes
--- nothing.
+-- What a packet's first four bytes show, by the tests that lead there: the one place that unfolds `headFault`; and what
+-- a word shows (`word-rule`). Assumes nothing.
 use Prim.Native.Nat.{ℕ, _/_, _%_, _≤_, _<_}
-use mathlib.Core.Path.{_≡_}
-use mathlib.Core.List.{List}
+use mathlib.Core.Path.{_≡_, sym, _∙_}
+use mathlib.Core.Bool.{not}
+use mathlib.Core.List.{List, [], _∷_}
 use native.Mathlib.Omega.{arith}
-use borrow.Author.Tests.{le-leb, lt-leb, eq-eqb, ne-eqb}
+use lib.Dec.{eqb}
+use borrow.Author.Tests.{le-leb, lt-leb, eq-eqb, ne-eqb, eqb-true, eqb-false}
+use Rattle.laws.proofs.Tests.{either}
+use Rattle.utils.proofs.ClearLaws.{clear-fine, clear-lost, has-here, has-behind, has-nil}
 use Rattle.def_refusals.specs.declared.Refusal.the-variants.{TooShort, WrongVersion, WrongPacketType, Padded}
 use Rattle.def_refusals.specs.declared.Checked.the-variants.{Fine, Unfit}
 use Rattle.def_wire.specs.Bytes.{byteAt}
 use Rattle.def_wire.specs.Packet.{announcedOf}
+use Rattle.def_wire.specs.Block.{rule, lostRun, clearRule}
 use Rattle.def_portions.specs.Events.{headFault}
 
 -- the packet's first four bytes v: the length that they announce, the first byte and the second are known by equations
@@ -39,3 +44,10 @@ module _ (v : List ℕ) (l : ℕ) (e : l ≡ announcedOf v) where
         unfolding headFault
         head-fine p = let k : 8 ≤ announcedOf v = omega arith in
             rw (le-leb 8 _ k, eq-eqb _ _ (rw f at good), eq-eqb _ _ (rw s at type), ne-eqb _ _ (rw f at p))
+
+-- a word alone: whether it is a run of no length
+pub word-rule : (l w : ℕ) → rule (not (eqb w lostRun)) 12 l ≡ clearRule l (w ∷ [])
+word-rule l w =
+    either (eqb w lostRun)
+    (λ t. rw t (sym (clear-lost l (w ∷ []) (has-here lostRun w [] (eqb-true _ _ t)))))
+    (λ f. rw f (sym (clear-fine l (w ∷ []) (has-behind lostRun w [] (eqb-false _ _ f) ∙ has-nil lostRun))))
