@@ -1,38 +1,26 @@
+-- `block::check_length` meets its contract: 10, then 7 by the length. Assumes nothing.
+use mathlib.Core.Path.{sym, _∙_}
 use borrow.Author.Needs.{needs}
+use Rattle.block.proofs.BlockLaws.{length-other, length-rule}
 use Rattle.block.proofs.check_length.Statement.{statement}
 use Rattle.block.proofs.check_length.Tie as tie
-use Rattle.block.proofs.check_length.Reads as reads
-use Rattle.block.proofs.check_length.Lts as lts
-use Rattle.block.proofs.other.Reads as other-reads
-use Rattle.block.proofs.rule.Reads as rule-reads
-use Rattle.block.proofs.type_of.Reads as type-of-reads
-use Rattle.records.proofs.rle_type.Reads as rle-type-reads
 
--- src/lib.rt:62:9
-type-of-requires : tie.Need-type-of-requires
-type-of-requires c κs = search needs
-
--- src/lib.rt:63:13
-rle-type-requires : tie.Need-rle-type-requires
-rle-type-requires c κs = search needs
-
--- src/lib.rt:64:9
-other-requires : tie.Need-other-requires
-other-requires c κs = search needs
-
--- src/lib.rt:64:9
 returns : tie.Need-returns
-returns c = ?
+returns c = let i = c .before in
+    let t = i .before .before in
+    let a = t .before .before .args in
+    c .other .ensures ∙ (rw (t .type-of .ensures) (length-other (a .a) (a .v .now)
+    (λ q. i .if1 .taken (t .type-of .ensures ∙ q ∙ sym (i .before .rle-type .ensures)))))
 
--- src/lib.rt:66:5
-rule-requires : tie.Need-rule-requires
-rule-requires c κs = search needs
-
--- src/lib.rt:59:1
 returns-2 : tie.Need-returns-2
-returns-2 c = ?
+returns-2 c = let e = c .before in
+    let t = e .before .before in
+    let a = t .before .before .args in
+    c .rule .ensures ∙ length-rule (a .a) (a .v .now)
+    (sym (t .type-of .ensures) ∙ e .if1 .left ∙ e .before .rle-type .ensures)
 
 pub check-length-spec : {M : Type 1} → statement M
 check-length-spec =
     tie.close
-    (tie.spec type-of-requires rle-type-requires other-requires returns rule-requires returns-2)
+    (tie.spec (λ c κs. search needs) (λ c κs. search needs) (λ c κs. search needs) returns (λ c κs. search needs)
+    returns-2)
