@@ -45,9 +45,10 @@ module _ (v : List ℕ) (l : ℕ) (e : l ≡ announcedOf v) where
         head-fine p = let k : 8 ≤ announcedOf v = omega arith in
             rw (le-leb 8 _ k, eq-eqb _ _ (rw f at good), eq-eqb _ _ (rw s at type), ne-eqb _ _ (rw f at p))
 
--- a word alone: whether it is a run of no length
-pub word-rule : (l w : ℕ) → rule (not (eqb w lostRun)) 12 l ≡ clearRule l (w ∷ [])
-word-rule l w =
-    either (eqb w lostRun)
-    (λ t. rw t (sym (clear-lost l (w ∷ []) (has-here lostRun w [] (eqb-true _ _ t)))))
-    (λ f. rw f (sym (clear-fine l (w ∷ []) (has-behind lostRun w [] (eqb-false _ _ f) ∙ has-nil lostRun))))
+-- a word alone, and its block's length, both known by equations: whether it is a run of no length
+pub word-rule : (length n w h : ℕ) → n ≡ length → h ≡ w → rule (not (eqb h lostRun)) 12 n ≡ clearRule length (w ∷ [])
+word-rule length n w h e f =
+    rw (e, f)
+    (either (eqb w lostRun)
+    (λ t. rw t (sym (clear-lost length (w ∷ []) (has-here lostRun w [] (eqb-true _ _ t)))))
+    (λ f. rw f (sym (clear-fine length (w ∷ []) (has-behind lostRun w [] (eqb-false _ _ f) ∙ has-nil lostRun)))))

@@ -29,13 +29,11 @@ returns-4 c = let l = c .before .before in
     let i = b .before .before in
     rw (
       c .rule .ensures,
-      c .before .low16 .ensures,
-      l .length-of .ensures .0,
       i .before .before .if1 .left,
       ne-eqb _ _ (i .if2 .left),
       ne-eqb _ _ (b .if3 .left),
       w .if4 .taken,
-    ) (word-rule _ _)
+    ) (word-rule _ _ _ _ (l .length-of .ensures .0) (c .before .low16 .ensures))
 
 returns-5 : tie.Need-returns-5
 unfolding faultOf
