@@ -12,7 +12,7 @@ use Rattle.def_refusals.specs.declared.Checked.{Checked}
 use Rattle.def_refusals.specs.declared.Checked.the-variants.{Fine, Unfit}
 use Rattle.def_wire.specs.Bytes.{four}
 use Rattle.def_wire.specs.Block.{typeOf, blockLength, kindOf}
-use Rattle.def_portions.specs.Events.{Course, course, then, unless, blockFault, blockEvents}
+use Rattle.def_portions.specs.Events.{Course, course, then, unless, blockFault, blockThen}
 use Rattle.states.specs.declared.Known.{Known}
 use Rattle.states.specs.Steps.{state, block, known, heldOver, low32, itemFault, passed, shownBy, loneOf, inBlock}
 use Rattle.states.specs.Steps.{openedBy, startIn, listOf}
@@ -51,7 +51,7 @@ module _ (k : Known) (behind a b c d : ℕ) (y : Bytes (header a b c d)) (x : Li
 
   block-passed : blockFault (behind + 4) hd ≡ Fine
       → runOf (state block 4 0 0 behind k) (hd ++ x)
-      ≡ then (blockEvents (hd ++ take size x)) (ending (k .announced) size (behind - size) x)
+      ≡ blockThen (hd ++ take size x) (ending (k .announced) size (behind - size) x)
   unfolding passed shownBy loneOf inBlock
   block-passed f =
       item-passed block 4 0 behind k hd x (omega arith) refl (fault-held ∙ f)
@@ -69,7 +69,7 @@ module _ (k : Known) (behind a b c d : ℕ) (y : Bytes (header a b c d)) (x : Li
 
   block-whole : (f : Checked) → blockFault (behind + 4) v ≡ f
       → runOf (state block 4 0 0 behind k) v
-      ≡ unless f (then (blockEvents (take (blockLength v) v)) (ending (k .announced) size (behind - size) x))
+      ≡ unless f (blockThen (take (blockLength v) v) (ending (k .announced) size (behind - size) x))
   unfolding blockFault
   block-whole Fine e = block-passed e ∙ (rw own)
   block-whole (Unfit r) e = block-refused r e
@@ -77,7 +77,7 @@ module _ (k : Known) (behind a b c d : ℕ) (y : Bytes (header a b c d)) (x : Li
 pub block-run : (k : Known) (behind : ℕ) (v : List ℕ) → 4 ≤ length v → Bytes v → (f : Checked)
     → blockFault (behind + 4) v ≡ f → let n = blockLength v - 4 in
     runOf (state block 4 0 0 behind k) v
-    ≡ unless f (then (blockEvents (take (blockLength v) v)) (ending (k .announced) n (behind - n) (drop 4 v)))
+    ≡ unless f (blockThen (take (blockLength v) v) (ending (k .announced) n (behind - n) (drop 4 v)))
 block-run k behind [] h y f e = absurd (omega arith)
 block-run k behind (a ∷ []) h y f e = absurd (omega arith)
 block-run k behind (a ∷ b ∷ []) h y f e = absurd (omega arith)

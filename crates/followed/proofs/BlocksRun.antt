@@ -14,7 +14,7 @@ use Rattle.def_refusals.specs.declared.Checked.{Checked}
 use Rattle.def_refusals.specs.declared.Checked.the-variants.{Fine, Unfit}
 use Rattle.def_wire.specs.Packet.{lengthAt, part}
 use Rattle.def_wire.specs.Block.{blockLength}
-use Rattle.def_portions.specs.Events.{quiet, then, unless, blockFault, blockEvents, blocksFrom}
+use Rattle.def_portions.specs.Events.{quiet, unless, blockFault, blockThen, blocksFrom}
 use Rattle.states.specs.declared.Known.{Known}
 use Rattle.states.specs.Steps.{state, block, nextBlock}
 use Rattle.followed.specs.Run.{runOf, opening, ending}
@@ -72,7 +72,7 @@ module _ (s : List ℕ) (y : Bytes s) (stop : ℕ) (within : length s ≤ stop) 
 
     block-at : (f : Checked) → blockFault behind v ≡ f
         → runOf (state block 4 0 0 (behind - 4) k) v
-        ≡ unless f (then (blockEvents (part s at (lengthAt s at))) (blocksFrom s stop fuel (at + lengthAt s at)))
+        ≡ unless f (blockThen (part s at (lengthAt s at)) (blocksFrom s stop fuel (at + lengthAt s at)))
     block-at f c =
         let x : 4 ≤ length v = omega (arith, length-drop at s) in
         let z : behind - 4 + 4 ≡ behind = omega arith in
@@ -80,10 +80,9 @@ module _ (s : List ℕ) (y : Bytes s) (stop : ℕ) (within : length s ≤ stop) 
         (block-run k (behind - 4) v x (bytes-drop at s y) f (rw z c) ∙ rest f c)
       where
         rest : (f : Checked) → blockFault behind v ≡ f
-            → unless f (then (blockEvents (take (blockLength v) v))
-            (ending (k .announced) n (behind - 4 - n) (drop 4 v)))
-            ≡ unless f (then (blockEvents (take (blockLength v) v)) (blocksFrom s stop fuel (at + blockLength v)))
-        rest Fine c = ap (then (blockEvents (take (blockLength v) v))) (tail (good-block behind v c))
+            → unless f (blockThen (take (blockLength v) v) (ending (k .announced) n (behind - 4 - n) (drop 4 v)))
+            ≡ unless f (blockThen (take (blockLength v) v) (blocksFrom s stop fuel (at + blockLength v)))
+        rest Fine c = ap (blockThen (take (blockLength v) v)) (tail (good-block behind v c))
         rest (Unfit r) c = refl
 
   pub blocks : (fuel : ℕ) → From fuel

@@ -22,7 +22,7 @@ use Rattle.followed.specs.Run.{runOf, opening}
 use Rattle.followed.proofs.ItemRun.{item-open, item-passed}
 use Rattle.followed.proofs.BehindRun.{opened-item}
 use Rattle.followed.proofs.ValueLaws.{by-four, by-eight, held-low, held-eight, be32-lt, bytes-take, bytes-drop}
-use Rattle.followed.proofs.UnitsRun.{Units}
+use Rattle.followed.proofs.UnitsRun.{Units, listed-split}
 
 -- an entry's numbers
 abbrev entryAt : List ℕ → Echo
@@ -110,18 +110,18 @@ entries-split p bs x =
     (λ i j k l m n o q. refl))
     bs
 
-pub entries : Units whose 4 12 Anything entriesListed
+pub entries : Units whose 4 12 Anything (λ p bs. then (entriesListed p bs))
 entries =
     record {
       inner = refl;
       some = omega arith;
-      shown = λ p bs. Entry (entryAt bs) ∷ [];
+      shown = λ p bs. then (Entry (entryAt bs) ∷ []);
       past = λ p bs. p;
       moved = λ k bs. passedBy k;
       kept = λ k bs. refl;
-      short = λ p bs h. rw (echoes-short (words32 bs) (omega (arith, length-words32 bs)));
+      short = λ p bs h c. rw (echoes-short (words32 bs) (omega (arith, length-words32 bs)));
       begun = entry-begun;
-      split = entries-split;
+      split = λ p bs x e. listed-split (Entry (entryAt bs) ∷ []) (entriesListed p x) (entries-split p bs x e);
       passes = λ p k g bs e y. record {};
       whole = λ p k g bs e y rest behind x. by-twelve
           (λ s. Bytes s

@@ -19,7 +19,7 @@ use Rattle.def_portions.specs.Events.{ruleOf}
 use Rattle.states.specs.declared.Known.{Known}
 use Rattle.states.specs.declared.Portions.{Portions}
 use Rattle.states.specs.Steps.{fields, word, time, whose, echo, clock, skipped}
-use Rattle.states.specs.Steps.{known, low16, low32, typeIn, ranged, moved, itemFault, opened, openedBy, passed}
+use Rattle.states.specs.Steps.{known, low16, low32, typeIn, ranged, moved, opened, openedBy, passed}
 use Rattle.followed.proofs.CheckLaws.{rule-fine}
 
 pub data Inner (item rest : ℕ) : Type 0 where
@@ -63,16 +63,6 @@ kind-onward NoKind k l behind e f d h =
 
 -- behind a complete item
 module _ (c : Portions) where
-  -- it shows no refusal
-  pub inner-fine : Inner (c .item) (c .rest) → itemFault c ≡ Fine
-  inner-fine (at-fields i r) = rw i
-  inner-fine (at-word i r) = rw i
-  inner-fine (at-time i r) = rw i
-  inner-fine (at-whose i r) = rw i
-  inner-fine (at-echo i r) = rw i
-  inner-fine (at-clock i r) = rw i
-  inner-fine (at-skipped i r) = rw i
-
   times-begin : c .rest % 4 ≡ 0 → 0 < c .rest → Begins time 4 (c .rest)
   times-begin r s = record { some = omega arith; fits = omega arith; shape = at-time refl (omega arith) }
 

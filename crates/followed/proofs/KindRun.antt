@@ -22,7 +22,7 @@ use Rattle.def_wire.specs.Block.{typeOf, blockLength, timeAt, kindOf, standardR
 use Rattle.def_standard.specs.Standard.{entriesOf}
 use Rattle.def_portions.specs.declared.Event.{Event}
 use Rattle.def_portions.specs.declared.Event.the-variants.{Start, Time, Entry}
-use Rattle.def_portions.specs.Events.{Course, then, from, startOf, kindEvents, ruleOf}
+use Rattle.def_portions.specs.Events.{Course, then, from, startOf, kindEvents, kindThen, ruleOf}
 use Rattle.states.specs.declared.Known.{Known}
 use Rattle.states.specs.Steps.{state, clock, skipped, whose, itemFault, passed, shownBy, loneOf, opened, openedBy}
 use Rattle.states.specs.Steps.{startIn, listOf}
@@ -116,8 +116,8 @@ module _ (a b c d : ℕ) (y : Bytes (header a b c d)) (announced : ℕ) where
   -- behind its first four bytes: its events, and then what is behind it
   pub inner : (kd : KindOr) → kindOf a ≡ kd → ruleOf kd (blockLength hd) ≡ Fine → (behind : ℕ) (bs : List ℕ) → Bytes bs
       → then (listOf (startIn kd (be32 hd 0))) (opening (openedBy kd kn size behind) bs)
-      ≡ then (kindEvents kd (hd ++ take size bs)) (ending announced size behind bs)
-  unfolding kindEvents standardRule
+      ≡ kindThen kd (hd ++ take size bs) (ending announced size behind bs)
+  unfolding kindEvents kindThen standardRule
   inner (AKind (Spans (Chunks g))) e f behind bs u =
       let q : eqb a receiptType ≡ false = rw (kind-type a (Spans (Chunks g)) e) (rle-not-times g) in
       let l : 12 ≤ blockLength hd = leb-true _ _ (rule-fine (leb 12 (blockLength hd)) 12 (blockLength hd) f) in

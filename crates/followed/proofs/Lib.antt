@@ -1,6 +1,6 @@
 -- Read in this order.
 -- What a state shows: ItemRun (one item, and what is behind it), BehindRun (what comes behind a block).
--- What is held: ValueLaws.
+-- What is held: ValueLaws. A run of no length: LostLaws.
 -- A block: UnitsRun (units of so many bytes in a row), WordsRun, TimesRun, EntriesRun (words, times, entries),
 -- RangedRun (types 1 to 3), KindLaws, CheckLaws, KindRun (by its kind), BlockRun (from its first byte on).
 -- A packet: BlocksRun (its blocks), CourseRun (`runs`: the fold gives def_portions' course).
@@ -11,6 +11,7 @@
 pub mod ItemRun
 pub mod BehindRun
 pub mod ValueLaws
+pub mod LostLaws
 pub mod UnitsRun
 pub mod WordsRun
 pub mod TimesRun

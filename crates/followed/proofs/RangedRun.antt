@@ -1,37 +1,38 @@
 -- A block of types 1 to 3, behind its first four bytes, as far as its bytes have come. Assumes bytes below 256.
 --     spans      its fields, then its words or times, then what is behind it
 use Prim.Native.Nat.{ℕ, _+_, _*_, _-_, _%_, _≤_, _<_}
-use mathlib.Core.Path.{_≡_, refl, ap, ap₂, _∙_}
+use mathlib.Core.Path.{_≡_, refl, sym, ap, ap₂, _∙_}
 use mathlib.Core.Bool.{Bool, true, false, cond}
-use mathlib.Core.List.{List, [], _∷_, _++_, map}
+use mathlib.Core.List.{List, [], _∷_, _++_}
 use native.Mathlib.Omega.{arith}
 use lib.ListN.{length, take, drop, length-take, length-append, take-append-drop}
 use lib.Seq.{length-take-le, take-add, drop-at}
 use lib.Dec.{ltb, eqb}
-use borrow.Author.Tests.{ltb-true, ltb-false, le-leb, lt-leb}
+use borrow.Author.Tests.{ltb-true, ltb-false}
 use Rattle.laws.proofs.Tests.{either}
 use Rattle.utils.proofs.BytesLaws.{Bytes}
 use Rattle.def_wire.specs.declared.Ranged.{Ranged}
 use Rattle.def_wire.specs.declared.Ranged.the-variants.{Chunks, Times}
+use Rattle.def_wire.specs.declared.Kind.the-variants.{Spans}
+use Rattle.def_wire.specs.declared.KindOr.the-variants.{AKind}
 use Rattle.def_wire.specs.declared.Fields.{Fields}
-use Rattle.def_wire.specs.Bytes.{be32, words16, words32, four, eight}
+use Rattle.def_wire.specs.Bytes.{be32, four, eight}
 use Rattle.def_wire.specs.Block.{typeOf, specificOf, blockLength, fieldsAt, receiptType}
 use Rattle.def_standard.specs.declared.Range.{Range}
 use Rattle.def_standard.specs.Range.{rangeOf, numberOf}
-use Rattle.def_standard.specs.Standard.{numbersFrom, pairsFrom}
-use Rattle.def_portions.specs.declared.Event.{Event}
-use Rattle.def_portions.specs.declared.Event.the-variants.{Ranged as RangedStart, Number, Pair}
-use Rattle.def_portions.specs.Events.{then, from, listed, rangedOf}
+use Rattle.def_portions.specs.declared.Event.the-variants.{Ranged as RangedStart}
+use Rattle.def_portions.specs.Events.{then, rangedOf, kindThen}
 use Rattle.states.specs.declared.Known.{Known}
 use Rattle.states.specs.Steps.{fields, word, time, known, heldOver, fieldsIn, ranged, passed, shownBy}
 use Rattle.states.specs.Steps.{loneOf, opened, typeIn, thinningIn}
 use Rattle.range.specs.Inside.{insideCount}
 use Rattle.followed.specs.Run.{opening, ending}
-use Rattle.followed.proofs.ItemRun.{whole, then-then, item-open, item-passed}
+use Rattle.followed.proofs.ItemRun.{whole, item-open, item-passed}
 use Rattle.followed.proofs.BehindRun.{ending-more, ending-open, opened-item}
 use Rattle.followed.proofs.ValueLaws.{by-eight, held-eight, four-held, eight-held, bytes-take, bytes-drop}
+use Rattle.followed.proofs.LostLaws.{listedThen, short-then, ranged-then}
 use Rattle.followed.proofs.UnitsRun.{units}
-use Rattle.followed.proofs.WordsRun.{Stands, words}
+use Rattle.followed.proofs.WordsRun.{StandsIn, words}
 use Rattle.followed.proofs.TimesRun.{times}
 
 -- what stands behind the fields
@@ -47,20 +48,12 @@ abbrev pub isTimes : Ranged → Bool
 isTimes (Chunks a) = false
 isTimes Times = true
 
--- what bytes behind the fields list
-abbrev listedIn : Ranged → Range → List ℕ → List Event
-listedIn (Chunks a) g bs = map Number (numbersFrom g 0 (words16 bs))
-listedIn Times g bs = map Pair (pairsFrom g 0 (words32 bs))
-
-listing : (r : Ranged) (g : Range) (k : Known) → Stands g 0 k → (m behind : ℕ) (bs : List ℕ) → Bytes bs
+-- what bytes behind the fields list, in a block of l bytes
+listing : (r : Ranged) (g : Range) (l : ℕ) (k : Known) → StandsIn g l 0 k → (m behind : ℕ) (bs : List ℕ) → Bytes bs
     → opening (opened k (m * unitOf r) behind (itemOf r) (unitOf r)) bs
-    ≡ then (listedIn r g (take (m * unitOf r) bs)) (ending (k .announced) (m * unitOf r) behind bs)
-listing (Chunks a) g k s m behind bs y = units (words g) m 0 k s behind bs y
-listing Times g k s m behind bs y = units (times g) m 0 k s behind bs y
-
-listed-in : (r : Ranged) (v x : List ℕ) → drop 12 v ≡ x → listed r v ≡ listedIn r (rangeOf (fieldsAt v)) x
-listed-in (Chunks a) v x e = rw e
-listed-in Times v x e = rw e
+    ≡ listedThen r g l (take (m * unitOf r) bs) (ending (k .announced) (m * unitOf r) behind bs)
+listing (Chunks a) g l k s m behind bs y = units (words g l) m 0 k s behind bs y
+listing Times g l k s m behind bs y = units (times g) m 0 k (s .stands) behind bs y
 
 -- by what stands behind the fields
 picked : (r : Ranged) (k : Known) (rest behind : ℕ)
@@ -123,14 +116,17 @@ module _ (a b c d : ℕ) (y : Bytes (header a b c d)) (announced : ℕ) where
     unfolding shownBy loneOf
     fields-shown rest behind = started type-held length-held (fields-held t x e z)
 
-    fields-stand : Stands (rangeOf f) 0 rn
+    fields-stand : StandsIn (rangeOf f) (blockLength hd) 0 rn
     unfolding ranged rangeOf
     fields-stand =
         let i : insideCount (rangeOf f) ≡ insideCount (rangeOf f) - 0 = omega arith in
         record {
-          number = ap (λ (h : Fields). numberOf (rangeOf h) 0) (fields-held t x e z);
-          left = ap (λ (h : Fields). insideCount (rangeOf h)) (fields-held t x e z) ∙ i;
-          thinning = thinning-held;
+          stands = record {
+            number = ap (λ (h : Fields). numberOf (rangeOf h) 0) (fields-held t x e z);
+            left = ap (λ (h : Fields). insideCount (rangeOf h)) (fields-held t x e z) ∙ i;
+            thinning = thinning-held;
+          };
+          length = length-held;
         }
 
   -- its fields, then its words or times, then what is behind it
@@ -140,17 +136,17 @@ module _ (a b c d : ℕ) (y : Bytes (header a b c d)) (announced : ℕ) where
 
     spans-begun : (bs : List ℕ) → length bs < 8 → let v = hd ++ take size bs in
         opening (opened kn size behind fields 8) bs
-        ≡ then (from 12 v (rangedOf v ∷ listed r v)) (ending announced size behind bs)
+        ≡ kindThen (AKind (Spans r)) v (ending announced size behind bs)
     spans-begun bs h =
         let v = hd ++ take size bs in
         let l : length v < 12 = omega (arith, length-take size bs) in
         opened-item kn size behind fields 8 bs refl (omega arith)
         ∙ item-open fields 8 (size - 8) behind kn bs h
-        ∙ (rw (lt-leb 12 (length v) l, ending-open announced size behind bs (omega arith)))
+        ∙ sym (short-then v (ending announced size behind bs) r l ∙ ending-open announced size behind bs (omega arith))
 
     spans-whole : (t x : List ℕ) → length t ≡ 8 → Bytes t → Bytes x → let v = hd ++ (t ++ take (m * unitOf r) x) in
         opening (opened kn size behind fields 8) (t ++ x)
-        ≡ then (from 12 v (rangedOf v ∷ listed r v)) (ending announced size behind (t ++ x))
+        ≡ kindThen (AKind (Spans r)) v (ending announced size behind (t ++ x))
     unfolding ranged
     spans-whole t x e z u =
         let x′ = take (m * unitOf r) x in
@@ -162,17 +158,13 @@ module _ (a b c d : ℕ) (y : Bytes (header a b c d)) (announced : ℕ) where
         opened-item kn size behind fields 8 (t ++ x) refl (omega arith)
         ∙ item-passed fields 8 (size - 8) behind kn t x (omega arith) e refl
         ∙ (rw (fields-shown r q t x′ e z (size - 8) behind, fields-passed r q t x′ e z (size - 8) behind, n)
-        (ap (then (rangedOf v ∷ [])) (listing r g k (fields-stand r q t x′ e z) m behind x u)))
-        ∙ then-then (rangedOf v ∷ []) (listedIn r g x′) (ending announced (m * unitOf r) behind x)
-        ∙ (rw (
-          le-leb 12 (length v) l,
-          listed-in r v x′ (drop-at t x′ 8 e),
-          ending-more announced 8 (m * unitOf r) behind t x e,
-        ))
+        (ap (then (rangedOf v ∷ [])) (listing r g (blockLength v) k (fields-stand r q t x′ e z) m behind x u)))
+        ∙ sym (ap (kindThen (AKind (Spans r)) v) (ending-more announced 8 (m * unitOf r) behind t x e)
+        ∙ ranged-then v (ending announced (m * unitOf r) behind x) r x′ (drop-at t x′ 8 e) l)
 
     pub spans : (bs : List ℕ) → Bytes bs → let v = hd ++ take size bs in
         opening (opened kn size behind fields 8) bs
-        ≡ then (from 12 v (rangedOf v ∷ listed r v)) (ending announced size behind bs)
+        ≡ kindThen (AKind (Spans r)) v (ending announced size behind bs)
     spans bs u =
         either (ltb (length bs) 8)
         (λ y. spans-begun bs (ltb-true _ _ y))

@@ -59,6 +59,16 @@ unfolding next settled
 next-complete st b h m =
     rw (not-zero (st .missing) h, eq-eqb (st .missing - 1) 0 m)
 
+-- a complete item shows no refusal, where the bytes behind it show none
+fine-by : (c : Portions) → c .missing ≡ 0 → (x : Checked) → itemFault c ≡ x → (bs : List ℕ)
+    → faultOf (after (passedOn x c) bs) ≡ Fine → x ≡ Fine
+fine-by c z Fine e bs f = refl
+fine-by c z (Unfit r) e bs f = sym (kept c r z e bs) ∙ f
+
+pub fine-behind : (c : Portions) → c .missing ≡ 0 → (bs : List ℕ) → faultOf (after (passedOn (itemFault c) c) bs) ≡ Fine
+    → itemFault c ≡ Fine
+fine-behind c z bs f = fine-by c z (itemFault c) refl bs f
+
 -- so after any bytes that show no refusal
 module _ (announced : ℕ) where
   pub going : (bs : List ℕ) (n : ℕ) (st : Portions) → Going announced n st → n + length bs ≤ announced

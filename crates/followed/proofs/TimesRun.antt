@@ -24,7 +24,7 @@ use Rattle.states.specs.Steps.{state, time, moved, passed, shownBy, loneOf, ope
 use Rattle.followed.specs.Run.{runOf, opening}
 use Rattle.followed.proofs.ItemRun.{not-zero, whole, item-open, item-passed}
 use Rattle.followed.proofs.ValueLaws.{by-four, held-low}
-use Rattle.followed.proofs.UnitsRun.{Units}
+use Rattle.followed.proofs.UnitsRun.{Units, listed-split}
 use Rattle.followed.proofs.WordsRun.{Stands, stands-moved}
 
 -- fewer than four bytes make no word
@@ -80,18 +80,18 @@ module _ (g : Range) where
       item-passed time 4 (4 + rest - 4) behind k bs x (omega arith) e refl
       ∙ (rw (time-shown p k s (4 + rest - 4) behind bs e y, r))
 
-  pub times : Units time 4 4 (Stands g) pairsListed
+  pub times : Units time 4 4 (Stands g) (λ p bs. then (pairsListed p bs))
   times =
       record {
         inner = refl;
         some = omega arith;
-        shown = timeShown;
+        shown = λ p bs. then (timeShown p bs);
         past = λ p bs. p + 1;
         moved = λ k bs. moved k 1;
         kept = λ k bs. refl;
-        short = λ p bs h. rw (words32-short bs h, pairs-nil p);
+        short = λ p bs h c. rw (words32-short bs h, pairs-nil p);
         begun = λ k rest behind bs h. item-open time 4 (4 + rest - 4) behind k bs h;
-        split = pairs-split;
+        split = λ p bs x e. listed-split (timeShown p bs) (pairsListed (p + 1) x) (pairs-split p bs x e);
         passes = λ p k s bs e y. stands-moved g p 1 k s;
         whole = time-whole;
       }

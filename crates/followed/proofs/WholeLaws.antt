@@ -25,38 +25,57 @@ use Rattle.def_wire.specs.Bytes.{byteAt}
 use Rattle.def_wire.specs.Packet.{versionOf, isPadded, announcedOf, ssrcOf, paddingOf, isBadPadding, headerOf, countOf}
 use Rattle.def_wire.specs.Packet.{lengthAt, placeOf, walkFrom, part}
 use Rattle.def_wire.specs.Block.{typeOf, blockLength, kindOf, standardRule, fitness, checkOf, fieldsOf, timeOf}
+use Rattle.def_wire.specs.Block.{wordsAt, clearRule, wordRule}
 use Rattle.def_questions.specs.Questions.{numbersShown, pairsShown, entriesShown}
 use Rattle.def_portions.specs.declared.Event.{Event}
 use Rattle.def_portions.specs.declared.Event.the-variants.{Header, End}
 use Rattle.def_portions.specs.Events.{course, then, ruleOf, headFault, blockFault, kindEvents, blockEvents}
-use Rattle.def_portions.specs.Events.{blocksFrom, courseOf}
+use Rattle.def_portions.specs.Events.{blocksFrom, courseOf, lostFault, blockThen}
 use Rattle.def_portions.specs.Calls.{pastFault}
 use Rattle.xr.proofs.WalkLaws.{no, done-eq, count-done}
-use Rattle.followed.specs.Whole.{viewOf, kindPart, partOf, partsFrom, wholeOf}
+use Rattle.utils.proofs.ClearLaws.{clear-fine, fine-clear}
+use Rattle.followed.specs.Whole.{viewOf, fitAs, fitOf, kindPart, partOf, partsFrom, wholeOf}
+use Rattle.followed.proofs.LostLaws.{whole-then}
 use Rattle.followed.proofs.KindLaws.{kind-type}
-use Rattle.followed.proofs.CheckLaws.{rule-fine}
+use Rattle.followed.proofs.CheckLaws.{both-fine, rule-fine}
 use Rattle.followed.proofs.BlocksRun.{length-at}
 
 -- ---- one block
 
-check-fine : (k : Kind) (v : List ℕ) → kindOf (typeOf v) ≡ AKind k → standardRule k (length v) ≡ Fine
+-- a block that is fit to be read: its length, and its words
+fit-length : (kd : KindOr) (v : List ℕ) → fitAs kd v ≡ Fine → ruleOf kd (length v) ≡ Fine
+unfolding fitness
+fit-length (AKind k) v f = both-fine (standardRule k (length v)) (wordRule k (length v) v) f .0
+fit-length NoKind v f = refl
+
+fit-clear : (kd : KindOr) (v : List ℕ) → fitAs kd v ≡ Fine → lostFault kd v ≡ Fine
+unfolding fitness
+fit-clear (AKind (Spans (Chunks a))) v f =
+    let w = both-fine (standardRule (Spans (Chunks a)) (length v)) (clearRule (length v) (wordsAt v)) f .1 in
+    clear-fine (blockLength v) (wordsAt v) (fine-clear (length v) (wordsAt v) w)
+fit-clear (AKind (Spans Times)) v f = refl
+fit-clear (AKind Clock) v f = refl
+fit-clear (AKind Echoes) v f = refl
+fit-clear NoKind v f = refl
+
+check-fine : (k : Kind) (v : List ℕ) → kindOf (typeOf v) ≡ AKind k → fitness Standard k v ≡ Fine
     → checkOf Standard k v ≡ Fine
-unfolding checkOf fitness
+unfolding checkOf
 check-fine k v e f = rw (eq-eqb _ _ (kind-type (typeOf v) k e)) f
 
 -- twelve bytes at least, where a rule asks for them
-spans-long : (g : Ranged) (v : List ℕ) → standardRule (Spans g) (length v) ≡ Fine → leb 12 (length v) ≡ true
+spans-long : (g : Ranged) (v : List ℕ) → fitness Standard (Spans g) v ≡ Fine → leb 12 (length v) ≡ true
 unfolding standardRule
-spans-long g v f = rule-fine (leb 12 (length v)) 12 (length v) f
+spans-long g v f = rule-fine (leb 12 (length v)) 12 (length v) (fit-length (AKind (Spans g)) v f)
 
-clock-long : (v : List ℕ) → standardRule Clock (length v) ≡ Fine → leb 12 (length v) ≡ true
+clock-long : (v : List ℕ) → fitness Standard Clock v ≡ Fine → leb 12 (length v) ≡ true
 unfolding standardRule
 clock-long v f =
-    let l : length v ≡ 12 = eqb-true _ _ (rule-fine (eqb (length v) 12) 12 (length v) f) in
+    let r = rule-fine (eqb (length v) 12) 12 (length v) (fit-length (AKind Clock) v f) in
+    let l : length v ≡ 12 = eqb-true _ _ r in
     le-leb 12 (length v) (omega arith)
 
-kind-events : (kd : KindOr) (v : List ℕ) → kindOf (typeOf v) ≡ kd → ruleOf kd (length v) ≡ Fine
-    → kindEvents kd v ≡ kindPart kd v
+kind-events : (kd : KindOr) (v : List ℕ) → kindOf (typeOf v) ≡ kd → fitAs kd v ≡ Fine → kindEvents kd v ≡ kindPart kd v
 unfolding kindEvents kindPart fieldsOf timeOf numbersShown pairsShown entriesShown
 kind-events (AKind (Spans (Chunks a))) v e f = rw (check-fine (Spans (Chunks a)) v e f, spans-long (Chunks a) v f)
 kind-events (AKind (Spans Times)) v e f = rw (check-fine (Spans Times) v e f, spans-long Times v f)
@@ -66,7 +85,7 @@ kind-events NoKind v e f = refl
 
 -- a block that is fit to be read
 abbrev pub Fit : List ℕ → Type 0
-Fit v = ruleOf (kindOf (typeOf v)) (length v) ≡ Fine
+Fit v = fitOf v ≡ Fine
 
 pub part-events : (v : List ℕ) → Fit v → blockEvents v ≡ partOf v
 part-events v f = kind-events (kindOf (typeOf v)) v refl f
@@ -96,7 +115,8 @@ module _ (s : List ℕ) where
   fit-fault at h f =
       let l : blockLength (drop at s) ≤ length s - at = omega (arith, length-at s at) in
       rw (le-leb _ _ l)
-      (sym (ap₂ (λ (t n : ℕ). ruleOf (kindOf t) n) (view-type at) (view-length at h ∙ length-at s at)) ∙ f)
+      (sym (ap₂ (λ (t n : ℕ). ruleOf (kindOf t) n) (view-type at) (view-length at h ∙ length-at s at))
+      ∙ fit-length (kindOf (typeOf (part s at (lengthAt s at)))) (part s at (lengthAt s at)) f)
 
   -- the blocks from block k on, up to the packet's end
   whole-blocks : (fuel k n : ℕ) → walkFrom s (length s) fuel (placeOf s k) k ≡ Done n → placeOf s k ≤ length s
@@ -121,7 +141,10 @@ module _ (s : List ℕ) where
       let ih = whole-blocks fuel (suc k) n (rw (add-one k) at d) (omega arith) (omega arith)
       (λ i j. f i (omega arith)) in
       rw (o, le-ltb (length s) (at + 4) e, fit-fault at (omega arith) g, r)
-      (ap (then (blockEvents (viewOf s k))) ih
+      (ap (blockThen (viewOf s k)) ih
+      ∙ whole-then (viewOf s k) (course (partsFrom s (suc k) (n - suc k) ++ (End ∷ [])) Fine)
+      (kindOf (typeOf (viewOf s k))) (omega (arith, view-length at (omega arith)))
+      (fit-clear (kindOf (typeOf (viewOf s k))) (viewOf s k) g)
       ∙ ap₂ (λ (x y : List Event). course (x ++ y) Fine) (part-events (viewOf s k) g) refl
       ∙ ap (λ (es : List Event). course es Fine)
       (sym (append-assoc (partOf (viewOf s k)) (partsFrom s (suc k) (n - suc k)) (End ∷ []))))))
@@ -157,7 +180,7 @@ accepted s stop p =
 
 -- all bytes of an accepted packet whose blocks are fit to be read
 pub whole : (s : List ℕ) (n : ℕ) → countOf Standard s ≡ Done n → isPadded s ≡ false
-    → ((k : ℕ) → k < n → ruleOf (kindOf (typeOf (viewOf s k))) (length (viewOf s k)) ≡ Fine)
+    → ((k : ℕ) → k < n → fitOf (viewOf s k) ≡ Fine)
     → courseOf s ≡ course (wholeOf s n) Fine
 unfolding courseOf placeOf
 whole s n c p f =

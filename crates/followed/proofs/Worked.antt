@@ -1,17 +1,21 @@
--- Whole by computation: what the questions answer of a packet with a block of each kind, as events.
+-- Whole by computation: what the questions answer of a packet with a block of each kind, as events; and which blocks
+-- are fit to be read.
 use Prim.Native.Nat.{ℕ}
 use mathlib.Core.Path.{_≡_, refl}
 use mathlib.Core.List.{List, [], _∷_}
+use Rattle.def_refusals.specs.declared.Refusal.the-variants.{BadBlockLength}
+use Rattle.def_refusals.specs.declared.Checked.the-variants.{Fine, Unfit}
 use Rattle.def_wire.specs.Bytes.{pairUp}
 use Rattle.def_wire.specs.Packet.{placeOf}
 use Rattle.def_wire.specs.Block.{rleOf, rangedOf, kindOf, standardRule, fitness, checkOf, fieldsOf, timeOf}
+use Rattle.def_wire.specs.Block.{has, clearRule}
 use Rattle.def_standard.specs.Chunks.{valuesIn}
 use Rattle.def_standard.specs.Range.{rangeOf, offsetOf, inside, numberOf}
 use Rattle.def_standard.specs.Standard.{valuesOf, numbersFrom, pairsFrom, echoesOf}
 use Rattle.def_questions.specs.Questions.{numbersShown, pairsShown, entriesShown}
 use Rattle.def_portions.specs.declared.Event.the-variants.{Header, Start, Ranged as RangedStart, Number, Pair}
 use Rattle.def_portions.specs.declared.Event.the-variants.{Entry, Time, End}
-use Rattle.followed.specs.Whole.{wholeOf, kindPart, partsFrom}
+use Rattle.followed.specs.Whole.{fitOf, wholeOf, kindPart, partsFrom}
 
 -- a loss block thinned by 1, two times and one past the range, a clock, an echo, and a block of no kind
 abbrev packet : List ℕ
@@ -38,4 +42,25 @@ whole-packet : wholeOf packet 5
     ∷ []
 unfolding pairUp placeOf rleOf rangedOf kindOf standardRule fitness checkOf fieldsOf timeOf valuesIn rangeOf offsetOf
     inside numberOf valuesOf numbersFrom pairsFrom echoesOf numbersShown pairsShown entriesShown kindPart partsFrom
+    has clearRule
 whole-packet = refl
+
+-- a block of type t: two words, of which the second has these bytes, or one time
+abbrev spans : ℕ → ℕ → ℕ → List ℕ
+spans t hi lo = t ∷ 0 ∷ 0 ∷ 3 ∷ 0 ∷ 0 ∷ 0 ∷ 7 ∷ 0 ∷ 10 ∷ 0 ∷ 14 ∷ 64 ∷ 1 ∷ hi ∷ lo ∷ []
+
+unfit-word : fitOf (spans 1 64 0) ≡ Unfit (BadBlockLength 12 16)
+unfolding pairUp rleOf rangedOf kindOf standardRule fitness has clearRule
+unfit-word = refl
+
+fit-word : fitOf (spans 1 64 1) ≡ Fine
+unfolding pairUp rleOf rangedOf kindOf standardRule fitness has clearRule
+fit-word = refl
+
+fit-time : fitOf (spans 3 64 0) ≡ Fine
+unfolding pairUp rleOf rangedOf kindOf standardRule fitness has clearRule
+fit-time = refl
+
+fit-other : fitOf (spans 9 64 0) ≡ Fine
+unfolding pairUp rleOf rangedOf kindOf standardRule fitness has clearRule
+fit-other = refl

@@ -1,10 +1,13 @@
 -- What the reading questions answer of a whole packet, as events: what a packet that comes in portions shows in all.
 --     viewOf       block k's view
+--     fitOf        whether a block's view is fit to be read
 --     partOf       the events of a block, from what the questions about its view answer
 --     partsFrom    those of so many blocks, from block k on
 --     wholeOf      those of a packet of n blocks
 use Prim.Native.Nat.{ℕ, zero, suc}
 use mathlib.Core.List.{List, [], _∷_, _++_, map}
+use Rattle.def_refusals.specs.declared.Checked.{Checked}
+use Rattle.def_refusals.specs.declared.Checked.the-variants.{Fine}
 use Rattle.def_refusals.specs.Answers.{Or, shown, refused}
 use Rattle.def_wire.specs.declared.Reading.the-variants.{Standard}
 use Rattle.def_wire.specs.declared.Ranged.the-variants.{Chunks, Times}
@@ -16,7 +19,7 @@ use Rattle.def_wire.specs.declared.FieldsOr.the-variants.{Shown, NoneOf}
 use Rattle.def_wire.specs.declared.TimeOr.{TimeOr}
 use Rattle.def_wire.specs.declared.TimeOr.the-variants.{Time, NoTime}
 use Rattle.def_wire.specs.Packet.{announcedOf, ssrcOf, lengthAt, placeOf, part}
-use Rattle.def_wire.specs.Block.{typeOf, blockLength, kindOf, fieldsOf, timeOf}
+use Rattle.def_wire.specs.Block.{typeOf, blockLength, kindOf, fitness, fieldsOf, timeOf}
 use Rattle.def_questions.specs.Questions.{numbersShown, pairsShown, entriesShown}
 use Rattle.def_portions.specs.declared.Event.{Event}
 use Rattle.def_portions.specs.declared.Event.the-variants.{Header, Ranged as RangedStart, Number, Pair, Entry, End}
@@ -25,6 +28,14 @@ use Rattle.def_portions.specs.Events.{startOf}
 
 abbrev pub viewOf : List ℕ → ℕ → List ℕ
 viewOf s k = part s (placeOf s k) (lengthAt s (placeOf s k))
+
+-- a block of no kind is fit to be read: there is nothing to ask
+abbrev pub fitAs : KindOr → List ℕ → Checked
+fitAs (AKind k) v = fitness Standard k v
+fitAs NoKind v = Fine
+
+abbrev pub fitOf : List ℕ → Checked
+fitOf v = fitAs (kindOf (typeOf v)) v
 
 -- a list that was asked for; nothing where it is refused
 abbrev pub listOf : {A : Type 0} → (A → Event) → Or (List A) → List Event
