@@ -30,8 +30,7 @@ loop-again c = let r = c .before in
     let rest = low16 (drop (l .loop .at + 2) (a .bytes .now)) in
     let e : low16 (drop (l .loop .at) (a .bytes .now)) ≡ x ∷ rest = rw (r .pair .ensures) (low-cons (a .bytes .now)
     (l .loop .at) (omega (arith, t))) in
-    let s = l .loop .inv .1 in
-    (
+    let s = l .loop .inv .1 in (
       omega (arith, t),
       ⊎-elim
           (λ q. rw (q .1) (seen-here s x rest e (q .0 .taken)))
