@@ -4,10 +4,14 @@ use mathlib.Core.Path.{sym, _∙_}
 use contract.Lifetimes.{Lfts}
 use Rattle.laws.proofs.Determined.{Fixes}
 use Rattle.block_events.proofs.count_block.Reads as count-block
+use Rattle.block_events.proofs.lost_fault.Reads as lost-fault
 use Rattle.block_events.proofs.put_block.Reads as put-block
 
 pub count-block-unique : (κs : Lfts 1) → Fixes (count-block.Post κs) (λ r s. r)
 count-block-unique κs a r₁ r₂ s₁ s₂ p q = p ∙ sym q
+
+pub lost-fault-unique : (κs : Lfts 1) → Fixes (lost-fault.Post κs) (λ r s. r)
+lost-fault-unique κs a r₁ r₂ s₁ s₂ p q = p ∙ sym q
 
 pub put-block-unique : (κs : Lfts 4) → Fixes (put-block.Post κs) (λ r s. r)
 put-block-unique κs a r₁ r₂ s₁ s₂ p q = p .past ∙ sym (q .past)
