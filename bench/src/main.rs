@@ -21,10 +21,10 @@ mod writing;
 use timing::Table;
 
 const USAGE: &str = "bench/run [GROUP ..]: times the named groups of rows, or all of them
-groups: packet numbers others longest refusals growth writing careful marks portions
+groups: packet numbers others longest refusals growth writing careful marks portions judging
 exit status: 0 every row is at or below its bar; 1 a row is above it; 2 bad usage; 101 an answer differs from the Rust's";
 
-const GROUPS: [(&str, fn(&mut Table)); 10] = [
+const GROUPS: [(&str, fn(&mut Table)); 11] = [
     ("packet", rows::packet),
     ("numbers", rows::numbers),
     ("others", rows::others),
@@ -35,6 +35,7 @@ const GROUPS: [(&str, fn(&mut Table)); 10] = [
     ("careful", rows::careful_writing),
     ("marks", rows::from_marks),
     ("portions", rows::in_portions),
+    ("judging", rows::judging),
 ];
 
 fn main() {

@@ -449,6 +449,55 @@ pub fn in_portions(t: &mut Table) {
     }
 }
 
+/// The bar for the pass over a block's words, as a part of listing them.
+const PASS: f64 = 0.2;
+
+/// The pass over a block's words for a run of ones of no length (asked for its fields, a block does nothing else),
+/// against listing the same words by this library.
+pub fn judging(t: &mut Table) {
+    t.heading("the pass over the words, against listing them by this library");
+    let full = 131_062;
+    for (name, words) in [
+        ("4,369 vectors", vectors(4369)),
+        ("1,000 mixed words", mixed(1000)),
+        ("65,536 runs of 1", runs(65_536, 1, 0)),
+    ] {
+        let s = make::rle(1, 0, 0, 0, &words);
+        let mut out = vec![0; 65_536];
+        assert_eq!(ours::fields_view(STANDARD, 1, &s).code, 0);
+        assert_eq!(ours::numbers_view(STANDARD, 1, &s, &mut out).code, 0);
+        let p = pair(
+            || go(ours::fields_view(STANDARD, 1, bb(&s))),
+            || go(ours::numbers_view(STANDARD, 1, bb(&s), bb(&mut out))),
+        );
+        t.row(&format!("{name}: fields, against numbers"), p, PASS);
+    }
+    let good = make::packet(&[make::rle(1, 0, 0, 0, &mixed(full))]);
+    let mut lost = good.clone();
+    let at = lost.len() - 2;
+    lost[at..].copy_from_slice(&[0x40, 0]);
+    assert_eq!((good.len(), ours::numbers(STANDARD, &lost, 0, 1, &mut []).code), (262_144, 7));
+    let mut out = vec![0; full];
+    let mut list = vec![0; full];
+    let fields = |s: &[u8]| go(ours::fields(STANDARD, bb(s), 0, 1));
+    let words = |s: &[u8], list: &mut [u16]| go(ours::words(STANDARD, bb(s), 0, 1, bb(list)));
+    t.note("262,144 bytes: fields, against chunk words", pair(|| fields(&good), || words(&good, &mut list)));
+    t.note(
+        "262,144 bytes: one step of the cursor, against numbers",
+        pair(
+            || go(ours::cursor(bb(&good), 0, 1, (0, 0, 0), 1, bb(&mut out))),
+            || go(ours::numbers(STANDARD, bb(&good), 0, 1, bb(&mut list))),
+        ),
+    );
+    for (name, room) in [("room for all", full), ("no room", 0)] {
+        let p = pair(
+            || go(ours::numbers(STANDARD, bb(&lost), 0, 1, bb(&mut out[..room]))),
+            || go(ours::numbers(STANDARD, bb(&good), 0, 1, bb(&mut list[..room]))),
+        );
+        t.note(&format!("262,144 bytes, 7 by its last word, {name}, against numbers"), p);
+    }
+}
+
 /// Both ways of plain Rust; the one that is harder to beat.
 fn made(m: &[u8], room: usize) -> Pair {
     agree::from_marks(m, room);

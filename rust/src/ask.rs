@@ -159,6 +159,9 @@ pub fn entries(
 
 /// At most `budget` steps through the standard list of block `k`, asked as type 1 or 2, from a cursor on; the list
 /// needs room for the budget: 1 to 6, 9, 10, 7, 16, 11.
+///
+/// Each call goes over all of the block's words before its first step, for a run of ones of no length, which is 7. That
+/// is quick, but it is the whole block: take as many steps at a time as the block has words, or more.
 pub fn cursor(
     packet: &[u8],
     k: usize,
@@ -285,7 +288,7 @@ pub fn chunk_of(word: u16) -> RleChunk {
     }
 }
 
-/// Makes one chunk word and stores its two bytes, big-endian: 13, 11.
+/// Makes one chunk word and stores its two bytes, big-endian: 13, 11. A run of ones of length 0 is 13.
 pub fn chunk(chunk: RleChunk, out: &mut [u8]) -> Result<usize, Refusal> {
     let (kind, value) = match chunk {
         RleChunk::Null => (sys::NULL, 0),

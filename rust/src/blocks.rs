@@ -7,13 +7,19 @@ use crate::{DelaySinceLastReceiverReportBlockBuilder, DelaySinceLastReceiverRepo
 use crate::{DuplicateRleBuilder, LossRleBuilder};
 use std::iter::FusedIterator;
 
-/// How many steps of the cursor the number iterator takes at a time.
+/// The fewest steps of the cursor that the number iterator takes at a time.
 const STRETCH: usize = 64;
+
+/// How many steps it takes at a time through a block of so many bytes: as many as the block has words, since each call
+/// of the cursor goes over all of them before its first step.
+fn stretch_of(bytes: usize) -> usize {
+    STRETCH.max(bytes / 2)
+}
 
 /// The sequence numbers of a block ([`LossRle::sequence_iter`], [`DuplicateRle::sequence_iter`]).
 ///
-/// In the standard reading it goes by the number cursor and holds no list but a stretch of 64 numbers. The crate's
-/// reading has no cursor: there it holds the list.
+/// In the standard reading it goes by the number cursor and holds no list but a stretch of as many numbers as the block
+/// has words, at least 64. The crate's reading has no cursor: there it holds the list.
 #[derive(Clone, Debug)]
 pub struct SequenceIter<'a> {
     source: Source<'a>,
@@ -26,7 +32,7 @@ enum Source<'a> {
         view: &'a [u8],
         cursor: Cursor,
         ended: bool,
-        buffer: [u16; STRETCH],
+        buffer: Vec<u16>,
         at: usize,
         stop: usize,
     },
@@ -44,10 +50,12 @@ impl Iterator for SequenceIter<'_> {
                     if *ended {
                         return None;
                     }
-                    let stretch = ask::cursor_view(*block_type, view, *cursor, STRETCH, buffer)
+                    let budget = stretch_of(view.len());
+                    buffer.resize(budget, 0);
+                    let stretch = ask::cursor_view(*block_type, view, *cursor, budget, buffer)
                         .expect("the block was checked, the cursor is its own, and the buffer has room");
                     *cursor = stretch.next;
-                    *ended = stretch.taken < STRETCH;
+                    *ended = stretch.taken < budget;
                     *at = 0;
                     *stop = stretch.listed;
                 }
@@ -94,7 +102,7 @@ impl<'a> Rle<'a> {
                 view: self.block.data(),
                 cursor: Cursor::default(),
                 ended: false,
-                buffer: [0; STRETCH],
+                buffer: Vec::new(),
                 at: 0,
                 stop: 0,
             },
@@ -217,7 +225,8 @@ macro_rules! run_length_encoded {
 
             /// The sequence numbers that it lists, in order.
             ///
-            /// In the standard reading this holds no list. In the crate's reading it does, and such a list can have
+            /// In the standard reading this holds no list but a stretch of it, no longer than the block's words (at
+            /// least 64 numbers). In the crate's reading it holds the list, and such a list can have
             /// over 2,000,000,000 numbers, of one packet: ask `sequence_count` first where packets come from
             /// strangers. It panics where the machine has no memory for that list.
             pub fn sequence_iter(&self) -> SequenceIter<'a> {

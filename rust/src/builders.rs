@@ -26,7 +26,7 @@ pub trait XrBlockBuilder {
 ///
 /// Whatever is wrong with a packet comes out at writing, as a refusal: a thinning over 15 or a padding that is no
 /// multiple of 4 as 12, over 31 blocks or 262,144 bytes as 14, a buffer that is too small as 11. A run over 16,383 or
-/// a vector over 32,767, which no chunk word can hold, is 13, before any of these.
+/// a vector over 32,767, which no chunk word can hold, and a run of ones of length 0, is 13, before any of these.
 ///
 /// ```
 /// use giunchemis::{LossRle, RleChunk, Xr};
@@ -196,7 +196,8 @@ macro_rules! builds_chunks {
                 self
             }
 
-            /// Adds chunk words as they are, such as [`words_from_marks`](crate::words_from_marks) makes.
+            /// Adds chunk words as they are, such as [`words_from_marks`](crate::words_from_marks) makes. The word
+            /// 16384, a run of ones of no length, is refused as 12, at writing.
             pub fn add_words(mut self, words: &[u16]) -> Self {
                 self.words.extend_from_slice(words);
                 self

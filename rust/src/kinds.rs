@@ -112,10 +112,12 @@ pub struct Stretch {
 /// assert_eq!(ask::chunk(RleChunk::BitVector(1), &mut bytes), Ok(2));
 /// assert_eq!(bytes, [0x80, 0x01]);
 /// assert_eq!(ask::chunk(RleChunk::RunLength(16_384), &mut bytes).unwrap_err().number(), 13);
+/// assert_eq!(ask::chunk(RleChunk::RunLength(0), &mut bytes).unwrap_err().number(), 13);
 /// ```
 #[derive(Clone, Copy, Debug, PartialEq, Eq, Hash)]
 pub enum RleChunk {
-    /// A run of ones, and its length, at most 16,383.
+    /// A run of ones, and its length, at most 16,383. One of length 0 can be read, in the crate's reading, and is not
+    /// made.
     RunLength(u16),
     /// A run of zeros, and its length, at most 16,383.
     SkipLength(u16),

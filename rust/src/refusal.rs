@@ -55,7 +55,8 @@ pub enum Refusal {
         /// the block's own type
         block_type: u8,
     },
-    /// 7: the block's length does not fit its type.
+    /// 7: the block's length does not fit its type; or, in the standard reading of types 1 and 2, a chunk word is a run
+    /// of ones of no length (word 16384), with an expected length of 12.
     BadBlockLength {
         /// the length that would fit
         expected: usize,
@@ -76,7 +77,7 @@ pub enum Refusal {
         /// how many were lent
         lent: usize,
     },
-    /// 13: a run over 16,383 or a vector over 32,767.
+    /// 13: a run over 16,383, a run of ones of length 0, or a vector over 32,767.
     ValueTooLarge {
         /// the value
         value: usize,
@@ -208,6 +209,10 @@ impl fmt::Display for Refusal {
             Refusal::NoBlock { count } => write!(f, "there is no such block: the packet has {}", count),
             Refusal::OtherType { block_type } => {
                 write!(f, "the block is of type {}, which was not asked or is not served", block_type)
+            }
+            Refusal::BadBlockLength { expected: 12, actual } if actual >= 12 => {
+                write!(f, "the block has {} bytes, and a clock needs 12; or, in a loss or duplicate block, ", actual)?;
+                write!(f, "a chunk word is a run of ones of no length")
             }
             Refusal::BadBlockLength { expected, actual } => {
                 write!(f, "the block has {} bytes, and its type needs {}", actual, expected)

@@ -6,7 +6,7 @@ mod second;
 mod support;
 
 use giunchemis::*;
-use support::{numbers_of, range, word, Random};
+use support::{good_word, numbers_of, range, Random};
 
 /// What a block is asked to show.
 #[derive(Debug, PartialEq)]
@@ -21,8 +21,8 @@ fn asked(random: &mut Random) -> Asked {
     let (begin, end, thinning) = range(random);
     let fields = (random.next() as u32, begin, end, thinning);
     match random.below(6) {
-        0 | 1 => Asked::Words(1, fields, (0..random.below(7)).map(|_| word(random)).collect()),
-        2 => Asked::Words(2, fields, (0..random.below(7)).map(|_| word(random)).collect()),
+        0 | 1 => Asked::Words(1, fields, (0..random.below(7)).map(|_| good_word(random)).collect()),
+        2 => Asked::Words(2, fields, (0..random.below(7)).map(|_| good_word(random)).collect()),
         3 => Asked::Times(fields, (0..random.below(6)).map(|_| random.next() as u32).collect()),
         4 => Asked::Clock(random.next() << 16 | random.next() & 0xffff),
         _ => Asked::Echoes(
@@ -156,6 +156,17 @@ fn what_cannot_be_written() {
     let block = DuplicateRle::builder().add_chunk(RleChunk::BitVector(40_000)).add_chunk(RleChunk::RunLength(20_000));
     assert_eq!(of(&Xr::builder().padding(3).add_block(block.clone())), (13, 40_000, 0));
     assert_eq!(Xr::builder().add_block(block).job_list().unwrap_err().number(), 13);
+    // a run of ones of no length: as a chunk 13, as a word 12 with the record's index; as a time it is fine
+    let block = LossRle::builder().add_chunk(RleChunk::SkipLength(0)).add_chunk(RleChunk::RunLength(0));
+    assert_eq!(of(&Xr::builder().padding(3).add_block(block)), (13, 0, 0));
+    for words in [&[0x4000][..], &[0x4001, 0x4000], &[0x4000, 0, 0], &[5, 0x4000, 5]] {
+        let loss = Xr::builder().add_block(clock()).add_block(LossRle::builder().add_words(words));
+        assert_eq!(of(&loss), (12, 2, 0));
+        let duplicate = Xr::builder().add_block(DuplicateRle::builder().add_words(words));
+        assert_eq!(of(&duplicate.add_block(LossRle::builder().add_words(words))), (12, 1, 0));
+    }
+    let times = PacketReceiptTimes::builder().add_time(ReceiptTime(0x4000)).add_time(ReceiptTime(0x4000_4000));
+    assert_eq!(Xr::builder().add_block(times).plain().unwrap().len(), 28);
     // 15: one entry, then a clock, is read as two entries by an old reader; in the other order it is not
     let echo = || DelaySinceLastReceiverReport::builder().add_block(DelaySinceLastReceiverReportBlock::builder());
     let both = Xr::builder().add_block(echo()).add_block(clock());

@@ -53,11 +53,19 @@ fn course(s: &[u8]) -> Course {
         // the whole block, zeros where its bytes have not come
         let mut block = s[at..s.len().min(at + length)].to_vec();
         block.resize(length, 0);
-        if let Err(no) = listed(&block) {
-            c.ends = Some((at + 4, no));
+        let clear = clear_bytes(&block);
+        let events = match listed(&block, clear) {
+            Ok(events) => events,
+            Err(no) => {
+                c.ends = Some((at + 4, no));
+                return c;
+            }
+        };
+        c.events.extend(events.into_iter().map(|(byte, e)| (at + byte, e)).filter(|(b, _)| *b <= s.len()));
+        if clear < length && at + clear + 2 <= s.len() {
+            c.ends = Some((at + clear + 2, (7, 12, length)));
             return c;
         }
-        c.events.extend(listed(&block).unwrap().into_iter().map(|(byte, e)| (at + byte, e)).filter(|(b, _)| *b <= s.len()));
         at += length;
     }
     if at == announced && at <= s.len() {
@@ -66,10 +74,17 @@ fn course(s: &[u8]) -> Course {
     c
 }
 
-/// A block's events, each with the byte of the block that completes it. A number's word is found by asking for the
-/// block's words one more at a time.
-fn listed(block: &[u8]) -> Result<Vec<(usize, Event)>, second::No> {
+/// How many bytes of a block stand before a run of ones of no length, or all.
+fn clear_bytes(block: &[u8]) -> usize {
+    let words = block.get(12..).filter(|_| block[0] == 1 || block[0] == 2).unwrap_or(&[]);
+    words.chunks(2).position(|w| w == [0x40, 0]).map_or(block.len(), |i| 12 + 2 * i)
+}
+
+/// The events of a block's first bytes, each with the byte of the block that completes it. A number's word is found by
+/// asking for the block's words one more at a time.
+fn listed(block: &[u8], clear: usize) -> Result<Vec<(usize, Event)>, second::No> {
     let (t, length) = (block[0], block.len());
+    let block = &block[..clear];
     let start = |fields| Event::Start { block_type: t, length, fields };
     let mut events = Vec::new();
     match t {
@@ -78,7 +93,7 @@ fn listed(block: &[u8]) -> Result<Vec<(usize, Event)>, second::No> {
             events.push((12, start(Some(Fields { media_ssrc: ssrc, begin, end, thinning }))));
             let step = if t == 3 { 4 } else { 2 };
             let mut before = 0;
-            for upto in (12 + step..=length).step_by(step) {
+            for upto in (12 + step..=block.len()).step_by(step) {
                 if t == 3 {
                     let pairs = second::pairs(&block[..upto])?;
                     events.extend(pairs[before..].iter().map(|(n, time)| (upto, Event::Pair(*n, ReceiptTime(*time)))));

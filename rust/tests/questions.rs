@@ -268,8 +268,12 @@ fn every_chunk_word_there_and_back() {
     for word in 0..=u16::MAX {
         let chunk = ask::chunk_of(word);
         let mut bytes = [9; 3];
-        assert_eq!(ask::chunk(chunk, &mut bytes), Ok(2));
-        assert_eq!(bytes, [(word >> 8) as u8, word as u8, 9]);
+        if word == 0x4000 {
+            // a run of ones of no length is not made
+            assert_eq!((refused(ask::chunk(chunk, &mut bytes)), bytes), ((13, 0, 0), [9; 3]));
+        } else {
+            assert_eq!((ask::chunk(chunk, &mut bytes), bytes), (Ok(2), [(word >> 8) as u8, word as u8, 9]));
+        }
         let expected = match word {
             0 => RleChunk::Null,
             1..=0x3fff => RleChunk::SkipLength(word),
@@ -283,6 +287,7 @@ fn every_chunk_word_there_and_back() {
         (RleChunk::RunLength(16_384), (13, 16_384, 0)),
         (RleChunk::SkipLength(65_535), (13, 65_535, 0)),
         (RleChunk::BitVector(32_768), (13, 32_768, 0)),
+        (RleChunk::RunLength(0), (13, 0, 0)),
     ] {
         assert_eq!(refused(ask::chunk(chunk, &mut bytes)), no);
         // 13 before 11
@@ -327,6 +332,64 @@ fn marks() {
             assert_eq!(loss.sequence_iter().collect::<Vec<_>>(), heard);
         }
     }
+}
+
+/// A packet of one block, of type 1 or 2, with these words.
+fn block_of(block_type: u8, end: u16, words: &[u16]) -> Vec<u8> {
+    let length = words.len() / 2 + 2;
+    let mut packet = vec![0x80, 207, 0, 0, 0, 0, 0, 1, block_type, 0, (length >> 8) as u8, length as u8];
+    packet.extend_from_slice(&[0, 0, 0, 7, 0, 0, (end >> 8) as u8, end as u8]);
+    words.iter().for_each(|w| packet.extend_from_slice(&w.to_be_bytes()));
+    let all = ((packet.len() / 4 - 1) as u16).to_be_bytes();
+    packet[2..4].copy_from_slice(&all);
+    packet
+}
+
+/// A run of ones of no length among good words, wherever it stands: the standard refuses the block for every question,
+/// nothing is stored, and the walk and the crate's reading go on.
+#[test]
+fn a_run_of_no_length() {
+    // as many words as a packet can have; 16,384 positions are inside
+    let many: Vec<u16> = (0..131_062u32).map(|i| [0x4001, 0x8001, 3, 0][i as usize % 4]).collect();
+    for (good, place) in [(&many, 0), (&many, 131_061), (&many, 65_000), (&vec![0x4004, 9], 1), (&vec![0x4004, 9], 0)] {
+        for block_type in [1, 2] {
+            let mut words = good.clone();
+            let fine = block_of(block_type, 16_384, &words);
+            assert!(ask::numbers(S, &fine, 0, block_type, &mut [0; 16_384]).is_ok());
+            words[place] = 0x4000;
+            let packet = block_of(block_type, 16_384, &words);
+            let no = (7, 12, packet.len() - 8);
+            assert_eq!(ask::locate(S, &packet, 0), Ok(8..packet.len()));
+            let view = &packet[8..];
+            assert_eq!(refused(ask::fields(S, &packet, 0, block_type)), no);
+            assert_eq!(refused(ask::fields_view(S, block_type, view)), no);
+            for room in [0, 1, 16_384, 140_000] {
+                let mut out = vec![7; room];
+                assert_eq!(refused(ask::numbers(S, &packet, 0, block_type, &mut out)), no);
+                assert_eq!(refused(ask::numbers_view(S, block_type, view, &mut out)), no);
+                assert_eq!(refused(ask::words(S, &packet, 0, block_type, &mut out)), no);
+                // before 16 and 11
+                for (word, budget) in [(0, 0), (0, room), (0, room + 1), (usize::MAX, 1)] {
+                    let cursor = Cursor { word, place: 0, position: 0 };
+                    assert_eq!(refused(ask::cursor(&packet, 0, block_type, cursor, budget, &mut out)), no);
+                    assert_eq!(refused(ask::cursor_view(block_type, view, cursor, budget, &mut out)), no);
+                }
+                assert!(out.iter().all(|x| *x == 7));
+            }
+            // 10 comes first; the crate takes the word
+            assert_eq!(refused(ask::fields(S, &packet, 0, 3 - block_type)), (10, usize::from(block_type), 0));
+            assert!(ask::fields(C, &packet, 0, block_type).is_ok());
+            let mut out = vec![7; 140_000];
+            assert_eq!(ask::words(C, &packet, 0, block_type, &mut out), Ok(words.len() - 1));
+            assert_eq!(out[..words.len() - 1], words[..words.len() - 1]);
+            assert!(Xr::parse(&packet).unwrap().block(0).unwrap().parse_into::<LossRle>().is_err());
+        }
+    }
+    // as a time, in the fields and across two words it is none
+    assert!(ask::fields(S, &hex("80cf0005 00000001 03000003 40004000 40004000 40004000"), 0, 3).is_ok());
+    assert!(ask::fields(S, &hex("80cf0005 00000001 01000003 40004000 40004000 01400001"), 0, 1).is_ok());
+    let text = Refusal::BadBlockLength { expected: 12, actual: 16 }.to_string();
+    assert!(text.contains("run of ones of no length"), "{}", text);
 }
 
 /// The longest list: counting it costs what its words cost.

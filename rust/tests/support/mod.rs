@@ -42,6 +42,14 @@ pub fn word(random: &mut Random) -> u16 {
     }
 }
 
+/// The same without the word that no writer takes, a run of ones of no length.
+pub fn good_word(random: &mut Random) -> u16 {
+    match word(random) {
+        0x4000 => 0x4001,
+        other => other,
+    }
+}
+
 /// Begin, end and thinning: ranges that wrap, are full, are short.
 pub fn range(random: &mut Random) -> (u16, u16, u8) {
     let any = random.next() as u16;

@@ -61,7 +61,7 @@ pub fn block(packet: &[u8], k: usize) -> Result<&[u8], No> {
     }
 }
 
-/// 10, then 7: a block, asked as a type that the question serves.
+/// 10, then 7 by the length, then 7 by the words: a block, asked as a type that the question serves.
 fn check(block: &[u8], asked: u8, served: &[u8]) -> Result<(), No> {
     if block[0] != asked || !served.contains(&asked) {
         return Err((10, usize::from(block[0]), 0));
@@ -74,6 +74,10 @@ fn check(block: &[u8], asked: u8, served: &[u8]) -> Result<(), No> {
     };
     if length != expected {
         return Err((7, expected, length));
+    }
+    if asked <= 2 && block[12..].chunks(2).any(|w| w == [0x40, 0]) {
+        // a run of ones of no length
+        return Err((7, 12, length));
     }
     Ok(())
 }
