@@ -15,9 +15,9 @@ use Rattle.def_refusals.specs.declared.Checked.the-variants.{Fine}
 use Rattle.utils.proofs.BytesLaws.{Bytes, be16-part}
 use Rattle.def_wire.specs.Bytes.{be32, four}
 use Rattle.def_wire.specs.Packet.{part}
-use Rattle.def_wire.specs.Block.{blockLength}
+use Rattle.def_wire.specs.Block.{typeOf, blockLength, kindOf}
 use Rattle.def_portions.specs.declared.Event.{Event}
-use Rattle.def_portions.specs.Events.{blockFault, blockEvents}
+use Rattle.def_portions.specs.Events.{blockFault, blockEvents, lostFault}
 use Rattle.event_lists.specs.Laid.{Laid}
 use Rattle.event_lists.proofs.LaidLaws.{and-then}
 use Rattle.states.specs.declared.Portions.{Portions}
@@ -103,8 +103,9 @@ be32-part x at n h =
 module _ (s : Portions) (x : List ℕ) (at l w : ℕ) (u : Bytes x) (e : w ≡ be32 x at) (r : l ≡ blockLength (four w))
   where
     pub whole-at : s ≡ state block 4 0 0 (s .behind) (s .known) → 4 ≤ l → at + l ≤ length x
-        → blockFault (s .behind + 4) (four w) ≡ Fine → WholeAt s x at l
-    whole-at i h o f =
+        → blockFault (s .behind + 4) (four w) ≡ Fine → lostFault (kindOf (typeOf (part x at l))) (part x at l) ≡ Fine
+        → WholeAt s x at l
+    whole-at i h o f c =
         let v = part x at l in
         let b : Bytes v = bytes-take l (drop at x) (bytes-drop at x u) in
         let q : 4 ≤ length v = omega (arith, length-part x at l o) in
@@ -116,6 +117,7 @@ module _ (s : Portions) (x : List ℕ) (at l w : ℕ) (u : Bytes x) (e : w ≡ b
           bytes = b;
           long = sym (length-four v b q) ∙ ap (λ (j : ℕ). blockLength (four j)) a ∙ sym r;
           fine = sym (fault-four (s .behind + 4) v b q) ∙ ap (λ (j : ℕ). blockFault (s .behind + 4) (four j)) a ∙ f;
+          clear = c;
         }
 
 module _ {s : Portions} {x : List ℕ} {at l : ℕ} (w : WholeAt s x at l) where
@@ -136,10 +138,10 @@ module _ {s : Portions} {x : List ℕ} {at l : ℕ} (w : WholeAt s x at l) where
         fits = w .fits;
         behind =
             ap₂ after (w .fresh) e
-            ∙ (rw q at (block-after (s .known) (s .behind) v y (w .bytes) (q ∙ sym (w .long)) (w .fine)));
+            ∙ (rw q at (block-after (s .known) (s .behind) v y (w .bytes) (q ∙ sym (w .long)) (w .fine) (w .clear)));
         first =
             ap₂ shows (w .fresh) e
-            ∙ (rw q at (block-shows (s .known) (s .behind) v y (w .bytes) (q ∙ sym (w .long)) (w .fine)))
+            ∙ (rw q at (block-shows (s .known) (s .behind) v y (w .bytes) (q ∙ sym (w .long)) (w .fine) (w .clear)))
             ∙ sym (append-assoc whole (endIn nextOne) (shows nextOne y));
       }
 

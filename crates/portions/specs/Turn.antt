@@ -1,5 +1,6 @@
 -- One turn of the loops over some bytes.
---     WholeAt         at an index the r bytes of a whole block begin, and the state s is before it
+--     WholeAt         at an index the r bytes of a whole block begin, with no run of no length, and the state s is before
+--                     it
 --     Turned          from an index on, m bytes first: their events es, and the state st behind them
 --     TurnCounted     a turn whose events are counted
 --     TurnStored      a turn whose events are stored in three lists from index n on
@@ -10,9 +11,9 @@ use lib.ListN.{length, drop}
 use Rattle.def_refusals.specs.declared.Checked.the-variants.{Fine}
 use Rattle.def_wire.specs.Bytes.{byteAt}
 use Rattle.def_wire.specs.Packet.{part}
-use Rattle.def_wire.specs.Block.{blockLength}
+use Rattle.def_wire.specs.Block.{typeOf, blockLength, kindOf}
 use Rattle.def_portions.specs.declared.Event.{Event}
-use Rattle.def_portions.specs.Events.{blockFault}
+use Rattle.def_portions.specs.Events.{blockFault, lostFault}
 use Rattle.event_lists.specs.Laid.{Laid}
 use Rattle.states.specs.declared.Portions.{Portions}
 use Rattle.states.specs.Steps.{state, block, after, shows}
@@ -25,6 +26,7 @@ pub record WholeAt (s : Portions) (x : List ℕ) (at r : ℕ) : Type 0 where
   pub bytes : (i : ℕ) → byteAt (part x at r) i < 256
   pub long : blockLength (part x at r) ≡ r
   pub fine : blockFault (s .behind + 4) (part x at r) ≡ Fine
+  pub clear : lostFault (kindOf (typeOf (part x at r))) (part x at r) ≡ Fine
 
 pub record Turned (s : Portions) (x : List ℕ) (at : ℕ) (es : List Event) (st : Portions) (m : ℕ) : Type 0 where
   pub some : 0 < m

@@ -23,23 +23,30 @@ fresh c =
 
 returns-7 : tie.Need-returns-7
 returns-7 c n =
-    let f = c .before .before in
+    let d = c .before .before in
+    let p = d .before in
+    let t = p .before in
+    let f = t .before .before in
     let l = f .before .before in
     let w = l .before in
     let g = w .before .before in
     let s = first g in
     whole-at (s .args .s) (s .args .x .now) (s .args .at) (l .length-of .result) (w .load32 .result) (bytes g)
     (w .load32 .ensures) (l .length-of .ensures .0) (fresh g) (l .length-of .ensures .1 .0)
-    (omega (arith, s .pre, f .before .if6 .left)) (sym (f .block-fault .ensures) ∙ c .enum-told .given .1)
+    (omega (arith, s .pre, f .before .if6 .left)) (sym (f .block-fault .ensures) ∙ t .enum-told .given .1)
+    (rw (p .part .ensures .0) at (sym (d .lost-fault .ensures) ∙ c .enum-told2 .given .1))
 
 -- a block that is refused is none
 returns-8 : tie.Need-returns-8
 returns-8 c n = absurd (n refl)
+
+returns-9 : tie.Need-returns-9
+returns-9 c n = absurd (n refl)
 
 pub whole-block-spec : {M : Type 1} → statement M
 whole-block-spec =
     tie.close
     (tie.spec (λ c n. absurd (n refl)) (λ c n. absurd (n refl)) (λ c n. absurd (n refl)) (λ c n. absurd (n refl))
     (λ c. search needs) (λ c n. absurd (n refl)) (λ c κs. search needs) (λ c κs. search needs) (λ c. search needs)
-    (λ c n. absurd (n refl)) (λ c κs. search needs) (λ c. search needs) (λ c. search needs) returns-7
-    returns-8)
+    (λ c n. absurd (n refl)) (λ c κs. search needs) (λ c. search needs) (λ c κs. search needs) (λ c κs. search needs)
+    (λ c. search needs) (λ c. search needs) (λ c. search needs) returns-7 returns-8 returns-9)
