@@ -1,14 +1,16 @@
 -- The laws of a block's checks, fields and time: each way in which they end, with what leads there as premises.
 use Prim.Native.Nat.{ℕ, _+_, _-_, _%_, _≤_, _<_}
 use mathlib.Core.Path.{_≡_}
-use mathlib.Core.Bool.{true, false}
+use mathlib.Core.Bool.{Bool, true, false, not}
 use mathlib.Core.List.{List}
 use lib.ListN.{length}
 use lib.Dec.{ltb, leb, eqb}
 use borrow.Author.Tests.{le-leb, lt-leb, eq-eqb, ne-eqb}
+use Rattle.laws.proofs.Tests.{either}
 use Rattle.def_refusals.specs.declared.Refusal.{Refusal}
 use Rattle.def_refusals.specs.declared.Refusal.the-variants.{OtherType, NoFields}
 use Rattle.def_refusals.specs.declared.Checked.the-variants.{Fine, Unfit}
+use Rattle.def_refusals.specs.Answers.{thenCheck}
 use Rattle.def_wire.specs.declared.Reading.{Reading}
 use Rattle.def_wire.specs.declared.Reading.the-variants.{Standard, Crate}
 use Rattle.def_wire.specs.declared.Rle.{Rle}
@@ -21,9 +23,11 @@ use Rattle.def_wire.specs.declared.TimeOr.the-variants.{Time, NoTime}
 use Rattle.def_wire.specs.declared.Located.the-variants.{At, Missing}
 use Rattle.def_wire.specs.Packet.{locate, part}
 use Rattle.def_wire.specs.Block.{typeOf, blockLength, rleType, receiptType, clockType, echoType, kindType, rule}
-use Rattle.def_wire.specs.Block.{standardRule, crateRule, fitness, checkOf}
+use Rattle.def_wire.specs.Block.{wordsAt, standardRule, lostRun, has, clearRule, crateRule, fitness, checkOf}
 use Rattle.def_wire.specs.Block.{isCut, fieldsAt, fieldsOf, timeAt, timeOf}
 use Rattle.def_questions.specs.Packets.{fieldsAsked, timeAsked}
+use Rattle.utils.proofs.ClearLaws.{fit-times, fit-clock, fit-echoes}
+use Rattle.block.specs.Lengths.{lengthCheck}
 
 -- 10
 pub check-other : (r : Reading) (k : Kind) (v : List ℕ) → (typeOf v ≡ kindType k → ⊥)
@@ -31,10 +35,38 @@ pub check-other : (r : Reading) (k : Kind) (v : List ℕ) → (typeOf v ≡ kind
 unfolding checkOf
 check-other r k v n = rw (ne-eqb _ _ n)
 
+-- the same of types 1 and 2 by the length alone
+module _ (a : Rle) (v : List ℕ) where
+  pub length-other : (typeOf v ≡ rleType a → ⊥) → Unfit (OtherType (typeOf v)) ≡ lengthCheck a v
+  unfolding lengthCheck
+  length-other n = rw (ne-eqb _ _ n)
+
+  pub length-rule : typeOf v ≡ rleType a → rule (leb 12 (length v)) 12 (length v) ≡ lengthCheck a v
+  unfolding lengthCheck standardRule
+  length-rule e = rw (eq-eqb _ _ e)
+
+  -- the whole check: that, and then the words
+  pub length-first : checkOf Standard (Spans (Chunks a)) v
+      ≡ thenCheck (lengthCheck a v) (clearRule (length v) (wordsAt v))
+  unfolding checkOf fitness lengthCheck
+  length-first = either (eqb (typeOf v) (rleType a)) (λ t. rw t) (λ f. rw f)
+
+-- then 7, by the words, where the length is good
+pub words-short : (v : List ℕ) → length v < 12
+    → rule false 12 (length v) ≡ thenCheck (rule (leb 12 (length v)) 12 (length v)) (clearRule (length v) (wordsAt v))
+words-short v h = rw (lt-leb 12 (length v) h)
+
+pub words-rule : (v : List ℕ) (lost : Bool) → 12 ≤ length v → lost ≡ has lostRun (wordsAt v)
+    → rule (not lost) 12 (length v) ≡ thenCheck (rule (leb 12 (length v)) 12 (length v)) (clearRule (length v) (wordsAt v))
+unfolding clearRule
+words-rule v lost h e = rw (le-leb 12 (length v) h, e)
+
 -- then 7: the length rules of both readings, kind by kind
 module _ (r : Reading) (v : List ℕ) where
   module _ (a : Rle) (e : typeOf v ≡ rleType a) where
-    pub chunks-standard : r ≡ Standard → rule (leb 12 (length v)) 12 (length v) ≡ checkOf r (Spans (Chunks a)) v
+    pub chunks-standard : r ≡ Standard
+        → thenCheck (rule (leb 12 (length v)) 12 (length v)) (clearRule (length v) (wordsAt v))
+        ≡ checkOf r (Spans (Chunks a)) v
     unfolding checkOf fitness standardRule
     chunks-standard q = rw (eq-eqb _ _ e, q)
 
@@ -44,8 +76,8 @@ module _ (r : Reading) (v : List ℕ) where
 
   module _ (e : typeOf v ≡ receiptType) where
     pub times-standard : r ≡ Standard → rule (leb 12 (length v)) 12 (length v) ≡ checkOf r (Spans Times) v
-    unfolding checkOf fitness standardRule
-    times-standard q = rw (eq-eqb _ _ e, q)
+    unfolding checkOf standardRule
+    times-standard q = rw (eq-eqb _ _ e, q, fit-times v)
 
     pub times-crate : r ≡ Crate → Fine ≡ checkOf r (Spans Times) v
     unfolding checkOf fitness crateRule
@@ -53,8 +85,8 @@ module _ (r : Reading) (v : List ℕ) where
 
   module _ (e : typeOf v ≡ clockType) where
     pub clock-standard : r ≡ Standard → rule (eqb (length v) 12) 12 (length v) ≡ checkOf r Clock v
-    unfolding checkOf fitness standardRule
-    clock-standard q = rw (eq-eqb _ _ e, q)
+    unfolding checkOf standardRule
+    clock-standard q = rw (eq-eqb _ _ e, q, fit-clock v)
 
     pub clock-crate : r ≡ Crate → rule (leb 12 (length v)) 12 (length v) ≡ checkOf r Clock v
     unfolding checkOf fitness crateRule
@@ -63,8 +95,8 @@ module _ (r : Reading) (v : List ℕ) where
   module _ (e : typeOf v ≡ echoType) where
     pub echoes-standard : (o : ℕ) → o ≡ length v - 4 → r ≡ Standard
         → rule (eqb (o % 12) 0) (length v + (12 - o % 12) % 12) (length v) ≡ checkOf r Echoes v
-    unfolding checkOf fitness standardRule
-    echoes-standard o h q = rw (eq-eqb _ _ e, q, h)
+    unfolding checkOf standardRule
+    echoes-standard o h q = rw (eq-eqb _ _ e, q, fit-echoes v, h)
 
     pub echoes-short : length v < 16 → r ≡ Crate → rule false 16 (length v) ≡ checkOf r Echoes v
     unfolding checkOf fitness crateRule

@@ -3,6 +3,7 @@
 use mathlib.Core.Path.{sym, _∙_}
 use contract.Lifetimes.{Lfts}
 use Rattle.laws.proofs.Determined.{Fixes}
+use Rattle.block.proofs.check_length.Reads as check-length
 use Rattle.block.proofs.check_chunks.Reads as check-chunks
 use Rattle.block.proofs.check_times.Reads as check-times
 use Rattle.block.proofs.check_clock.Reads as check-clock
@@ -13,6 +14,9 @@ use Rattle.block.proofs.fields.Reads as fields
 use Rattle.block.proofs.time.Reads as time
 use Rattle.block.proofs.fields_in.Reads as fields-in
 use Rattle.block.proofs.time_in.Reads as time-in
+
+pub check-length-unique : (κs : Lfts 1) → Fixes (check-length.Post κs) (λ r s. r)
+check-length-unique κs a r₁ r₂ s₁ s₂ p q = p ∙ sym q
 
 pub check-chunks-unique : (κs : Lfts 1) → Fixes (check-chunks.Post κs) (λ r s. r)
 check-chunks-unique κs a r₁ r₂ s₁ s₂ p q = p ∙ sym q

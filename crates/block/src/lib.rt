@@ -3,8 +3,12 @@
 // receiver_reference_time.rs, dlrr.rs.
 ghost use mathlib.Core.Path.{_≡_};
 ghost use Prim.Native.Nat.{_≤_};
-ghost use Rattle.def_wire.specs.Block.{typeOf, blockLength, checkOf, isCut, fieldsAt, fieldsOf, timeOf};
+ghost use lib.Dec.{leb};
+ghost use lib.ListN.{length};
+ghost use Rattle.def_refusals.specs.Answers.{thenCheck};
+ghost use Rattle.def_wire.specs.Block.{typeOf, blockLength, wordsAt, clearRule, checkOf, isCut, fieldsAt, fieldsOf, timeOf};
 ghost use Rattle.def_questions.specs.Packets.{fieldsAsked, timeAsked};
+ghost use Rattle.block.specs.Lengths.{lengthCheck};
 use def_refusals::Checked;
 use def_refusals::Refusal;
 use def_wire::Fields;
@@ -50,7 +54,32 @@ fn other(t: u8) -> Checked
     Checked::Unfit(Refusal::OtherType(t as usize))
 }
 
-// 10, then 7, of a block's view, asked as type 1 or 2.
+// In the standard reading: 10, then 7 by the length, of a block's view, asked as type 1 or 2. Its words are not looked
+// at: that is for a list, which goes over them anyway.
+pub fn check_length(a: Rle, v: &[u8]) -> Checked
+    ensures { λ c. ⌜ c ≡ lengthCheck a (now (v .entry)) ⌝ }
+{
+    let t = type_of(v);
+    if t != records::rle_type(a) {
+        return other(t);
+    }
+    rule(12 <= v.len(), 12, v.len())
+}
+
+// 7, by the length and then by the words: one pass over them (word_scan).
+fn check_words(v: &[u8]) -> Checked
+    ensures { λ c. ⌜ c ≡ thenCheck (Rattle.def_wire.specs.Block.rule (leb 12 (length (now (v .entry)))) 12 (length
+        (now (v .entry)))) (clearRule (length (now (v .entry))) (wordsAt (now (v .entry)))) ⌝ }
+{
+    if v.len() < 12 {
+        return rule(false, 12, v.len());
+    }
+    let lost = word_scan::has_lost_run(utils::part(v, 12, v.len()));
+    rule(!lost, 12, v.len())
+}
+
+// 10, then 7, of a block's view, asked as type 1 or 2. In the standard reading this is a pass over the block's words,
+// for a run of ones of no length.
 pub fn check_chunks(r: Reading, a: Rle, v: &[u8]) -> Checked
     ensures { λ c. ⌜ c ≡ checkOf r (Kind.Spans (Ranged.Chunks a)) (now (v .entry)) ⌝ }
 {
@@ -59,7 +88,7 @@ pub fn check_chunks(r: Reading, a: Rle, v: &[u8]) -> Checked
         return other(t);
     }
     match r {
-        Reading::Standard => rule(12 <= v.len(), 12, v.len()),
+        Reading::Standard => check_words(v),
         Reading::Crate => {
             let l = length_of(v);
             rule(12 <= l, 12, l)

@@ -10,7 +10,7 @@ use native.Mathlib.Nat.{add-zero}
 use native.Mathlib.Omega.{arith}
 use lib.ListN.{length, getD, take, replicate, length-map}
 use lib.Dec.{ltb}
-use borrow.Author.Tests.{lt-ltb, le-ltb, le-leb, lt-leb, ne-eqb}
+use borrow.Author.Tests.{lt-ltb, le-ltb, le-leb, lt-leb, eq-eqb, ne-eqb}
 use Rattle.laws.proofs.Tests.{both}
 use Rattle.def_refusals.specs.declared.Refusal.the-variants.{ValueTooLarge}
 use Rattle.def_standard.specs.declared.Chunk.the-variants.{Null, Skip, Run, Vector}
@@ -139,9 +139,13 @@ module _ (v : ℕ) where
   unfolding wordOf
   word-skip = within-fits v 16383 v
 
-  pub word-run : v ≤ 16383 → wordOf (Run v) ≡ Word (16384 + v)
+  pub word-run-none : v ≡ 0 → wordOf (Run v) ≡ Unmade (ValueTooLarge 0)
   unfolding wordOf
-  word-run = within-fits v 16383 (16384 + v)
+  word-run-none e = rw (eq-eqb v 0 e)
+
+  pub word-run : (v ≡ 0 → ⊥) → v ≤ 16383 → wordOf (Run v) ≡ Word (16384 + v)
+  unfolding wordOf
+  word-run n h = rw (ne-eqb v 0 n) (within-fits v 16383 (16384 + v) h)
 
   pub word-vector : v ≤ 32767 → wordOf (Vector v) ≡ Word (32768 + v)
   unfolding wordOf
@@ -154,7 +158,9 @@ module _ (v : ℕ) where
 
   pub word-run-over : 16383 < v → wordOf (Run v) ≡ Unmade (ValueTooLarge v)
   unfolding wordOf
-  word-run-over = within-over v 16383 (16384 + v)
+  word-run-over h =
+      let n : v ≡ 0 → ⊥ = λ (e : v ≡ 0). absurd (omega arith) in
+      rw (ne-eqb v 0 n) (within-over v 16383 (16384 + v) h)
 
   pub word-vector-over : 32767 < v → wordOf (Vector v) ≡ Unmade (ValueTooLarge v)
   unfolding wordOf

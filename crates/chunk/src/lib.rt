@@ -113,7 +113,7 @@ fn vector_word(v: u16) -> u16
 }
 
 // The word of a kind, or 13 (RULES, "Refusal numbers"). Port of: rle.rs RleChunk::write_into; differs: refuses where
-// the Rust masks.
+// the Rust masks, and a run of ones of no length, which the Rust writes.
 pub fn word_of(c: Chunk) -> MadeWord
     ensures { λ r. ⌜ r ≡ wordOf c ⌝ }
 {
@@ -127,6 +127,9 @@ pub fn word_of(c: Chunk) -> MadeWord
             }
         }
         Chunk::Run(n) => {
+            if n == 0 {
+                return MadeWord::Unmade(Refusal::ValueTooLarge(0));
+            }
             if n <= 0x3fff {
                 MadeWord::Word(run_word(n as u16))
             } else {

@@ -22,14 +22,14 @@ returns-2 : tie.Need-returns-2
 returns-2 c = let e = c .before in
     let o = e .before .before in
     let a = o .before .before .before .before .args in
-    c .rule .ensures ∙ chunks-standard (a .r) (a .v .now) (a .a) (same o) (e .enum-told .given .1)
+    c .check-words .ensures ∙ chunks-standard (a .r) (a .v .now) (a .a) (same o) (e .enum-told .given .1)
 
 returns-3 : tie.Need-returns-3
 returns-3 c = let l = c .before in
     let e = l .before in
     let o = e .before .before in
     let a = o .before .before .before .before .args in
-    c .rule2 .ensures
+    c .rule .ensures
     ∙ chunks-crate (a .r) (a .v .now) (a .a) (same o) (l .length-of .result) (l .length-of .ensures .0)
     (e .enum-told2 .given .1)
 

@@ -1,0 +1,2 @@
+-- Lengths: what is asked of a block before its words are looked at.
+pub mod Lengths
