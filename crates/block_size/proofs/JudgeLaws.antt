@@ -19,7 +19,7 @@ use Rattle.def_wire.specs.declared.Ranged.the-variants.{Chunks, Times}
 use Rattle.def_wire.specs.declared.Kind.the-variants.{Spans, Clock, Echoes}
 use Rattle.def_wire.specs.declared.KindOr.the-variants.{AKind, NoKind}
 use Rattle.def_wire.specs.Block.{lostRun, has, kindOf}
-use Rattle.def_jobs.specs.Jobs.{Job, le16, low16, jobWords, hasFields, isBlockJob}
+use Rattle.def_jobs.specs.Jobs.{Job, le16, low16, hasFields, isBlockJob}
 use Rattle.block_size.specs.Judged.{Fielded, hasWords}
 
 module _ (j : Job) where
