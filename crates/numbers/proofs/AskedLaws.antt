@@ -9,7 +9,7 @@ use lib.Seq.{take-all}
 use Rattle.def_refusals.specs.declared.Refusal.{Refusal}
 use Rattle.def_refusals.specs.declared.Checked.the-variants.{Fine, Unfit}
 use Rattle.def_refusals.specs.declared.Answer.{Answer}
-use Rattle.def_refusals.specs.Answers.{Or, shown, refused, Listed}
+use Rattle.def_refusals.specs.Answers.{Or, shown, refused, onFine, Listed}
 use Rattle.def_wire.specs.declared.Reading.{Reading}
 use Rattle.def_wire.specs.declared.Reading.the-variants.{Standard, Crate}
 use Rattle.def_wire.specs.declared.Fields.{Fields}
@@ -19,12 +19,14 @@ use Rattle.def_wire.specs.declared.Ranged.the-variants.{Chunks}
 use Rattle.def_wire.specs.declared.Kind.the-variants.{Spans}
 use Rattle.def_wire.specs.Packet.{locate, part}
 use Rattle.def_wire.specs.Bytes.{words16}
-use Rattle.def_wire.specs.Block.{checkOf, blockLength, fieldsAt}
+use Rattle.def_wire.specs.Block.{clearRule, checkOf, blockLength, fieldsAt}
 use Rattle.def_standard.specs.Range.{rangeOf}
 use Rattle.def_standard.specs.Standard.{numbersOf}
 use Rattle.def_crate.specs.Crate.{crateNumbersFrom}
 use Rattle.def_questions.specs.Questions.{numbersShown, wordsShown, wordsIn}
 use Rattle.def_questions.specs.Packets.{numbersAsked, wordsAsked}
+use Rattle.block.specs.Lengths.{lengthCheck}
+use Rattle.block.proofs.BlockLaws.{length-first}
 use Rattle.rle.specs.Most.{longest}
 use Rattle.numbers.specs.Words.{wordBytes}
 
@@ -47,27 +49,33 @@ pub listed-as : {whole asked : Or (List ℕ)} {out out′ : List ℕ} {a : Answe
     → Listed asked out a out′
 listed-as e l = rw (← e) l
 
+-- from the fields and the words' bytes that were read
+module _ (a : Rle) (v : List ℕ) (f : Fields) (b : List ℕ) (read : f ≡ fieldsAt v) where
+  -- the standard's: the words are judged with the list
+  pub numbers-standard : lengthCheck a v ≡ Fine → b ≡ wordBytes Standard v
+      → onFine (clearRule (length v) (words16 b)) (shown (numbersOf (rangeOf f) (words16 b))) ≡ numbersShown Standard a v
+  unfolding numbersShown
+  numbers-standard e bytes = rw (read, bytes, length-first a v, e)
+
+  -- the crate's words are no longer than the longest packet
+  crate-words : b ≡ wordBytes Crate v → blockLength v ≤ 262144
+      → take longest b ≡ take (blockLength v - 14) (drop 12 v)
+  crate-words bytes h = ap (take longest) bytes ∙ short longest (blockLength v - 14) (drop 12 v) (omega arith)
+
+  pub numbers-crate : checkOf Crate (Spans (Chunks a)) v ≡ Fine → b ≡ wordBytes Crate v → blockLength v ≤ 262144
+      → shown (crateNumbersFrom (f .end) (f .thinning) (f .begin) (words16 (take longest b))) ≡ numbersShown Crate a v
+  unfolding numbersShown
+  numbers-crate e bytes h =
+      ap (λ (l : List ℕ). shown (crateNumbersFrom (f .end) (f .thinning) (f .begin) (words16 l))) (crate-words bytes h)
+      ∙ (rw (read, e))
+
+-- 10, or 7 by the length
+pub numbers-short : (a : Rle) (v : List ℕ) (x : Refusal) → lengthCheck a v ≡ Unfit x
+    → numbersShown Standard a v ≡ refused x
+unfolding numbersShown
+numbers-short a v x e = rw (length-first a v, e)
+
 module _ (r : Reading) (a : Rle) (v : List ℕ) where
-  -- from the fields and the words' bytes that were read
-  module _ (e : checkOf r (Spans (Chunks a)) v ≡ Fine) (f : Fields) (b : List ℕ) (read : f ≡ fieldsAt v)
-      (bytes : b ≡ wordBytes r v) where
-    pub numbers-standard : r ≡ Standard → shown (numbersOf (rangeOf f) (words16 b)) ≡ numbersShown r a v
-    unfolding numbersShown
-    numbers-standard q = rw (read, bytes, e, q)
-
-    -- the crate's words are no longer than the longest packet
-    crate-words : r ≡ Crate → blockLength v ≤ 262144 → take longest b ≡ take (blockLength v - 14) (drop 12 v)
-    crate-words q h =
-        ap (take longest) (bytes ∙ ap (λ (x : Reading). wordBytes x v) q)
-        ∙ short longest (blockLength v - 14) (drop 12 v) (omega arith)
-
-    pub numbers-crate : r ≡ Crate → blockLength v ≤ 262144
-        → shown (crateNumbersFrom (f .end) (f .thinning) (f .begin) (words16 (take longest b))) ≡ numbersShown r a v
-    unfolding numbersShown
-    numbers-crate q h =
-        ap (λ (l : List ℕ). shown (crateNumbersFrom (f .end) (f .thinning) (f .begin) (words16 l))) (crate-words q h)
-        ∙ (rw (read, e, q))
-
   words-read : (r : Reading) → wordsIn r v ≡ words16 (wordBytes r v)
   words-read Standard = refl
   words-read Crate = refl

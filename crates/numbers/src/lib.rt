@@ -24,20 +24,46 @@ fn word_bytes(r: Reading, v: &[u8]) -> &[u8]
     }
 }
 
+// The numbers of a block's view in the standard reading: 10, 7 by the length, 7 by the words, 11. The words are gone over
+// once before they are listed (rle_standard).
+fn standard_numbers(a: Rle, v: &[u8], out: &mut [u16]) -> Answer
+    ensures { λ n. ⌜ Listed (numbersShown Reading.Standard a (now (v .entry))) (now (out .entry)) n (now (out .exit)) ⌝ }
+{
+    match block::check_length(a, v) {
+        Checked::Fine => {
+            let g = range::range_of(block::fields_at(v));
+            rle_standard::fill_clear(word_bytes(Reading::Standard, v), g, v.len(), out)
+        }
+        Checked::Unfit(x) => Answer::Refused(x),
+    }
+}
+
+// In the crate reading: 10, 7, 11.
+fn crate_numbers(a: Rle, v: &[u8], out: &mut [u16]) -> Answer
+    ensures { λ n. ⌜ Listed (numbersShown Reading.Crate a (now (v .entry))) (now (out .entry)) n (now (out .exit)) ⌝ }
+{
+    match block::check_chunks(Reading::Crate, a, v) {
+        Checked::Fine => {
+            let f = block::fields_at(v);
+            rle::fill_crate(
+                word_bytes(Reading::Crate, v),
+                f.end,
+                f.thinning,
+                f.begin,
+                out,
+            )
+        }
+        Checked::Unfit(x) => Answer::Refused(x),
+    }
+}
+
 // The numbers of a block's view, asked as type 1 or 2: 10, 7, 11.
 pub fn numbers(r: Reading, a: Rle, v: &[u8], out: &mut [u16]) -> Answer
     ensures { λ n. ⌜ Listed (numbersShown r a (now (v .entry))) (now (out .entry)) n (now (out .exit)) ⌝ }
 {
-    match block::check_chunks(r, a, v) {
-        Checked::Fine => {
-            let f = block::fields_at(v);
-            let bytes = word_bytes(r, v);
-            match r {
-                Reading::Standard => rle_standard::fill_standard(bytes, range::range_of(f), out),
-                Reading::Crate => rle::fill_crate(bytes, f.end, f.thinning, f.begin, out),
-            }
-        }
-        Checked::Unfit(x) => Answer::Refused(x),
+    match r {
+        Reading::Standard => standard_numbers(a, v, out),
+        Reading::Crate => crate_numbers(a, v, out),
     }
 }
 

@@ -1,3 +1,4 @@
--- StandardTurn (a turn of the loops), Unique (no second answer).
+-- StandardTurn (a turn of the loops), ClearLaws (words that must be clear, then listed), Unique (no second answer).
 pub mod StandardTurn
+pub mod ClearLaws
 pub mod Unique

@@ -1,8 +1,9 @@
 -- A word among the words of some bytes. Assumes bytes below 256 in `has-swapped`.
---     more, none      the word at an index, or none there
+--     Seen            a word is among those gone through so far, or among the rest; whatever the bytes' order
+--     low-*           the words from an index of the bytes on
 --     has-swapped     a block's run of no length, with its bytes the other way round
 use Prim.Native.Nat.{ℕ, suc, _+_, _*_, _≤_, _<_}
-use mathlib.Core.Path.{_≡_, refl, sym, ap, ap₂, _∙_}
+use mathlib.Core.Path.{_≡_, refl, sym, ap₂, _∙_}
 use mathlib.Core.Bool.{Bool, true, false, _||_}
 use mathlib.Core.List.{List, [], _∷_}
 use native.Mathlib.Omega.{arith}
@@ -17,35 +18,45 @@ use Rattle.def_wire.specs.Block.{lostRun, has}
 use Rattle.def_jobs.specs.Jobs.{low16, pairLow}
 use Rattle.little_endian.proofs.LowLaws.{pairLow-cons, pairLow-short}
 
-module _ (w : ℕ) (bytes : List ℕ) where
-  -- the word is among those before an index, or among those from there on
-  abbrev pub Seen : ℕ → Bool → Type 0
-  Seen at found = has w (low16 bytes) ≡ (found || has w (low16 (drop at bytes)))
+-- a word is among those gone through, or among the rest
+pub record Seen (w : ℕ) (whole rest : List ℕ) (found : Bool) : Type 0 where
+  pub by : has w whole ≡ (found || has w rest)
 
-  module _ (at x : ℕ) (found : Bool) (h : at + 1 < length bytes) (e : x ≡ byteAt bytes (at + 1) * 256 + byteAt bytes at)
-      (s : Seen at found) where
-    word : low16 (drop at bytes) ≡ x ∷ low16 (drop (at + 2) bytes)
-    word =
-        let z : byteAt bytes at + byteAt bytes (at + 1) * 256 ≡ x = omega arith in
-        pairLow-cons 256 bytes at (omega arith) ∙ (rw z)
+or-true : (b : Bool) → (b || true) ≡ true
+or-true true = refl
+or-true false = refl
 
-    or-true : (b c : Bool) → c ≡ true → (b || c) ≡ true
-    or-true true c q = refl
-    or-true false c q = q
+or-false : (b : Bool) → (b || false) ≡ b
+or-false true = refl
+or-false false = refl
 
-    pub seen-here : x ≡ w → Seen (at + 2) true
-    seen-here q = s ∙ or-true found _ (ap (has w) word ∙ has-here w x (low16 (drop (at + 2) bytes)) q)
+-- none was gone through
+pub seen-none : (w : ℕ) (whole : List ℕ) → Seen w whole whole false
+seen-none w whole = record { by = refl }
 
-    pub seen-on : (x ≡ w → ⊥) → Seen (at + 2) found
-    seen-on n = s ∙ ap (λ (c : Bool). found || c) (ap (has w) word ∙ has-behind w x (low16 (drop (at + 2) bytes)) n)
+module _ {w : ℕ} {whole here : List ℕ} {found : Bool} (s : Seen w whole here found) where
+  module _ (x : ℕ) (rest : List ℕ) (e : here ≡ x ∷ rest) where
+    -- the next one is it
+    pub seen-here : x ≡ w → Seen w whole rest true
+    seen-here q = record { by = s .by ∙ (rw (e, has-here w x rest q) (or-true found)) }
 
-  pub seen-all : (at : ℕ) (found : Bool) → length bytes ≤ at + 1 → Seen at found → found ≡ has w (low16 bytes)
-  seen-all at found h s =
-      sym (s ∙ ap (λ (c : Bool). found || c) (ap (has w) (pairLow-short 256 (drop at bytes) (omega (arith, length-drop at bytes))) ∙ has-nil w) ∙ or-false found)
-    where
-      or-false : (b : Bool) → (b || false) ≡ b
-      or-false true = refl
-      or-false false = refl
+    -- or is not
+    pub seen-on : (x ≡ w → ⊥) → Seen w whole rest found
+    seen-on n = record { by = s .by ∙ (rw (e, has-behind w x rest n)) }
+
+  pub seen-all : here ≡ [] → found ≡ has w whole
+  seen-all e = sym (s .by ∙ (rw (e, has-nil w) (or-false found)))
+
+-- the words of bytes from an index on, whose second byte is worth more
+module _ (bytes : List ℕ) (at : ℕ) where
+  pub low-cons : at + 1 < length bytes
+      → low16 (drop at bytes) ≡ (byteAt bytes (at + 1) * 256 + byteAt bytes at) ∷ low16 (drop (at + 2) bytes)
+  low-cons h =
+      let e : byteAt bytes at + byteAt bytes (at + 1) * 256 ≡ byteAt bytes (at + 1) * 256 + byteAt bytes at = omega arith in
+      rw (← e) (pairLow-cons 256 bytes at (omega arith))
+
+  pub low-end : length bytes ≤ at + 1 → low16 (drop at bytes) ≡ []
+  low-end h = pairLow-short 256 (drop at bytes) (omega (arith, length-drop at bytes))
 
 -- a block's word 16384 has the bytes 64 and 0; with the second worth more that is 64
 same : (x y : ℕ) → x < 256 → y < 256 → eqb (x * 256 + y) lostRun ≡ eqb (x + y * 256) 64
