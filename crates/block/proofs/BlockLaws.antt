@@ -57,7 +57,8 @@ pub words-short : (v : List ℕ) → length v < 12
 words-short v h = rw (lt-leb 12 (length v) h)
 
 pub words-rule : (v : List ℕ) (lost : Bool) → 12 ≤ length v → lost ≡ has lostRun (wordsAt v)
-    → rule (not lost) 12 (length v) ≡ thenCheck (rule (leb 12 (length v)) 12 (length v)) (clearRule (length v) (wordsAt v))
+    → rule (not lost) 12 (length v)
+    ≡ thenCheck (rule (leb 12 (length v)) 12 (length v)) (clearRule (length v) (wordsAt v))
 unfolding clearRule
 words-rule v lost h e = rw (le-leb 12 (length v) h, e)
 

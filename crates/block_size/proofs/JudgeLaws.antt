@@ -1,11 +1,16 @@
 -- When a record asks for a block and is good, with the tests that lead there as premises. Assumes nothing.
 --     fields-short, ..     the tests of `hasFields` in turn
 --     fields-are           what it says of a body
+--     words-short, ..      the tests of a body of words in turn
 --     block-words, ..      `isBlockJob` by the record's kind
+--     good-words           what it says of a body of words
 use Prim.Native.Nat.{ℕ, _-_, _%_, _≤_, _<_}
-use mathlib.Core.Path.{_≡_}
-use mathlib.Core.Bool.{true, false}
-use lib.ListN.{length}
+use mathlib.Core.Path.{_≡_, ap, _∙_}
+use mathlib.Core.Bool.{Bool, true, false, not}
+use mathlib.Core.List.{List}
+use native.Mathlib.Omega.{arith}
+use lib.ListN.{length, take, drop, length-drop}
+use lib.Seq.{take-all}
 use lib.Dec.{leb, eqb}
 use borrow.Author.Tests.{le-leb, lt-leb, leb-true, eqb-true}
 use Rattle.laws.proofs.Tests.{and-true}
@@ -13,9 +18,9 @@ use Rattle.def_wire.specs.declared.Rle.{Rle}
 use Rattle.def_wire.specs.declared.Ranged.the-variants.{Chunks, Times}
 use Rattle.def_wire.specs.declared.Kind.the-variants.{Spans, Clock, Echoes}
 use Rattle.def_wire.specs.declared.KindOr.the-variants.{AKind, NoKind}
-use Rattle.def_wire.specs.Block.{kindOf}
-use Rattle.def_jobs.specs.Jobs.{Job, le16, hasFields, isBlockJob}
-use Rattle.block_size.specs.Judged.{Fielded}
+use Rattle.def_wire.specs.Block.{lostRun, has, kindOf}
+use Rattle.def_jobs.specs.Jobs.{Job, le16, low16, hasFields, isBlockJob}
+use Rattle.block_size.specs.Judged.{Fielded, hasWords}
 
 module _ (j : Job) where
   pub fields-short : (bytes : ℕ) → length (j .body) < 10 → false ≡ hasFields j bytes
@@ -34,9 +39,21 @@ module _ (j : Job) where
       let q = and-true (leb (le16 (j .body) 8) 15) _ (p .1) in
       record { ten = leb-true _ _ (p .0); thin = leb-true _ _ (q .0); items = eqb-true _ _ (q .1) }
 
-  pub block-words : (a : Rle) → kindOf (j .kind) ≡ AKind (Spans (Chunks a)) → isBlockJob j ≡ hasFields j 2
+  pub words-short : hasFields j 2 ≡ false → false ≡ hasWords j
+  words-short e = rw e
+
+  pub words-clear : (behind : List ℕ) (lost : Bool) → hasFields j 2 ≡ true
+      → behind ≡ take (length (j .body)) (drop 10 (j .body)) → lost ≡ has lostRun (low16 behind) → not lost ≡ hasWords j
+  words-clear behind lost e b f =
+      let all = take-all (length (j .body)) (drop 10 (j .body)) (omega (arith, length-drop 10 (j .body))) in
+      ap not (f ∙ ap (λ (l : List ℕ). has lostRun (low16 l)) (b ∙ all)) ∙ (rw e)
+
+  pub block-words : (a : Rle) → kindOf (j .kind) ≡ AKind (Spans (Chunks a)) → isBlockJob j ≡ hasWords j
   unfolding isBlockJob
   block-words a e = rw e
+
+  pub good-words : hasWords j ≡ true → Fielded (j .body) 2
+  good-words e = fields-are 2 (and-true (hasFields j 2) _ e .0)
 
   pub block-times : kindOf (j .kind) ≡ AKind (Spans Times) → isBlockJob j ≡ hasFields j 4
   unfolding isBlockJob

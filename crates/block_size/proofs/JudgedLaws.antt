@@ -17,8 +17,9 @@ use Rattle.def_wire.specs.Block.{kindOf}
 use Rattle.def_jobs.specs.declared.Layout.{Layout}
 use Rattle.def_jobs.specs.Jobs.{Job, jobWords, hasFields, isBlockJob}
 use Rattle.def_jobs.specs.Layout.{zerosBehind, blockBytes}
-use Rattle.block_size.specs.Judged.{judgedSize}
-use Rattle.block_size.proofs.JudgeLaws.{fields-are, block-words, block-times, block-clock, block-echoes}
+use Rattle.block_size.specs.Judged.{judgedSize, hasWords}
+use Rattle.block_size.proofs.JudgeLaws.{fields-are, good-words, block-words, block-times, block-clock}
+use Rattle.block_size.proofs.JudgeLaws.{block-echoes}
 use Rattle.block_size.proofs.LayoutLaws.{length-block-words, length-block-times, length-block-clock}
 use Rattle.block_size.proofs.LayoutLaws.{length-block-echoes, block-least}
 
@@ -29,10 +30,10 @@ module _ (layout : Layout) (j : Job) where
   pub judged-bad : isBlockJob j ≡ false → 0 ≡ judgedSize layout j
   judged-bad g = rw g
 
-  pub judged-words : (a : Rle) → kindOf (j .kind) ≡ AKind (Spans (Chunks a)) → hasFields j 2 ≡ true → (z : ℕ)
+  pub judged-words : (a : Rle) → kindOf (j .kind) ≡ AKind (Spans (Chunks a)) → hasWords j ≡ true → (z : ℕ)
       → z ≡ zerosBehind layout (jobWords j) → length (j .body) + 2 + z * 2 ≡ judgedSize layout j
   judged-words a e f z h =
-      let w = fields-are j 2 f in
+      let w = good-words j f in
       judged-good _ (block-words j a e ∙ f) (omega (arith, w .ten, w .items, h, length-block-words layout j a e))
 
   pub judged-times : kindOf (j .kind) ≡ AKind (Spans Times) → hasFields j 4 ≡ true

@@ -18,7 +18,7 @@ use Rattle.def_wire.specs.declared.KindOr.{KindOr}
 use Rattle.def_wire.specs.declared.KindOr.the-variants.{AKind, NoKind}
 use Rattle.def_wire.specs.Block.{kindOf}
 use Rattle.def_jobs.specs.declared.Layout.{Layout}
-use Rattle.def_jobs.specs.Jobs.{Job, low32, jobWords, jobTimes, isBody, isBlockJob}
+use Rattle.def_jobs.specs.Jobs.{Job, low32, jobWords, jobTimes, hasFields, isBody, isBlockJob}
 use Rattle.def_jobs.specs.Layout.{bytesOf, zerosBehind, bytesAs, blockBytes}
 use Rattle.little_endian.proofs.LowLaws.{length-low32, length-bytesOf}
 use Rattle.block_size.proofs.ZerosLaws.{length-words, length-times, zeros-most}
@@ -68,7 +68,8 @@ module _ (layout : Layout) (j : Job) where
 body-fits : (k : KindOr) (layout : Layout) (j : Job) → isBody k j ≡ true
     → length (bytesAs k layout j) ≤ 6 + length (j .body)
 body-fits (AKind (Spans (Chunks a))) layout j e =
-    let h : 10 ≤ length (j .body) = leb-true _ _ (and-true (leb 10 (length (j .body))) _ e .0) in
+    let f = and-true (hasFields j 2) _ e .0 in
+    let h : 10 ≤ length (j .body) = leb-true _ _ (and-true (leb 10 (length (j .body))) _ f .0) in
     omega (arith, as-words layout j a, zeros-most (jobWords j) layout)
 body-fits (AKind (Spans Times)) layout j e =
     let h : 10 ≤ length (j .body) = leb-true _ _ (and-true (leb 10 (length (j .body))) _ e .0) in

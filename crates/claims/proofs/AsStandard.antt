@@ -32,7 +32,7 @@ use Rattle.def_wire.specs.declared.FieldsOr.the-variants.{Shown, NoneOf}
 use Rattle.def_wire.specs.declared.LongTime.{LongTime}
 use Rattle.def_wire.specs.declared.TimeOr.the-variants.{Time}
 use Rattle.def_wire.specs.Packet.{viewOf}
-use Rattle.def_wire.specs.Block.{typeOf, kindType, rleOf, rangedOf, kindOf, standardRule, fitness, checkOf, isCut, rule}
+use Rattle.def_wire.specs.Block.{typeOf, kindType, rleOf, rangedOf, kindOf, standardRule, checkOf, isCut, rule}
 use Rattle.def_wire.specs.Block.{onCheckedFields, onCheckedTime, fieldsAt, timeAt, fieldsOf, timeOf}
 use Rattle.def_standard.specs.declared.Receipt.{Receipt}
 use Rattle.def_standard.specs.declared.Echo.{Echo}
@@ -42,6 +42,7 @@ use Rattle.def_questions.specs.Packets.{fieldsAsked, numbersAsked, pairsAsked, 
 use Rattle.def_jobs.specs.Shown.{Record, reported, received, clocked, echoed, bare, recordAs, recordOf, sameRecord}
 use Rattle.def_jobs.specs.Shown.{onFields, numbersRow}
 use Rattle.def_jobs.specs.Writing.{differs, misleads}
+use Rattle.utils.proofs.ClearLaws.{fit-times}
 use Rattle.written.proofs.RecordsLaws.{not-shown, on-fine}
 use Rattle.old_readers.proofs.Same.{same-self, same-record}
 use Rattle.claims.specs.RoundTrip.{Answered}
@@ -58,7 +59,7 @@ kind-type (Spans Times) = refl
 kind-type Clock = refl
 kind-type Echoes = refl
 
-no-fault : {P : Type 0} {x : Refusal} → Unfit x ≡ Fine → P
+pub no-fault : {P : Type 0} {x : Refusal} → Unfit x ≡ Fine → P
 no-fault {x = x} e = absurd (let z : _≡_ {A = ℕ} 0 1 = cc in omega arith)
 
 module _ (r : Reading) (v : List ℕ) where
@@ -125,7 +126,7 @@ module _ (r : Reading) (v : List ℕ) where
       by-check Fine e = (refl, cc)
       by-check (Unfit x) e = absurd (let z : _≡_ {A = ℕ} 0 1 = cc in omega arith)
 
-  fields-fine : (g : Ranged) (f : Fields) → fieldsOf r g v ≡ Shown f
+  pub fields-fine : (g : Ranged) (f : Fields) → fieldsOf r g v ≡ Shown f
       → (checkOf r (Spans g) v ≡ Fine) × (isCut r g (length v) ≡ false) × (fieldsAt v ≡ f)
   unfolding fieldsOf
   fields-fine g f e =
@@ -156,10 +157,10 @@ module _ (s : List ℕ) (k : ℕ) (b : Both s k) where
 
   -- a type 3 block of its own 12 bytes is not cut
   own-times : checkOf Standard (Spans Times) (b .own) ≡ Fine → 12 ≤ length (b .own)
-  unfolding checkOf fitness standardRule
+  unfolding checkOf standardRule
   own-times c =
       by-test (eqb (typeOf (b .own)) (kindType (Spans Times)))
-      (λ _. by-rule (leb 12 (length (b .own))) refl) (λ _ e. no-fault e) c
+      (λ _ e. by-rule (leb 12 (length (b .own))) refl (sym (fit-times (b .own)) ∙ e)) (λ _ e. no-fault e) c
     where
       by-rule : (t : Bool) → leb 12 (length (b .own)) ≡ t → rule t 12 (length (b .own)) ≡ Fine → 12 ≤ length (b .own)
       by-rule true u e = leb-true _ _ u

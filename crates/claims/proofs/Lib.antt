@@ -1,7 +1,7 @@
 -- Taken (what a listing call left), Cursor (the number cursor by calls), Walk (the reader by moves), Answered (what a
 -- block shows, by questions), RoundTrip (a written packet read back), AsStandard (the crate's answers beside the
--- standard's), Careful (a carefully written packet), Marks (words from marks, and a report), Portions (a packet in
--- portions), Text (the text that is printed), Twelve (the examples, passed on).
+-- standard's), Careful (a carefully written packet), Marks (words from marks, and a report), NoLostRun (no run of no
+-- length is made), Portions (a packet in portions), Text (the text that is printed), Twelve (the examples, passed on).
 pub mod Taken
 pub mod Cursor
 pub mod Walk
@@ -10,6 +10,7 @@ pub mod RoundTrip
 pub mod AsStandard
 pub mod Careful
 pub mod Marks
+pub mod NoLostRun
 pub mod Portions
 pub mod Text
 pub mod Twelve

@@ -42,7 +42,7 @@ use Rattle.claims.proofs.RoundTrip.{reads-back}
 -- ---- the words
 
 -- marks that are not refused
-fine-asked : (ms ws : List ℕ) → marksAsked ms ≡ shown ws → (marksFault ms ≡ Fine) × (wordsOf ms ≡ ws)
+pub fine-asked : (ms ws : List ℕ) → marksAsked ms ≡ shown ws → (marksFault ms ≡ Fine) × (wordsOf ms ≡ ws)
 fine-asked ms ws e = by-fault (marksFault ms) refl
   where
     by-fault : (c : Checked) → marksFault ms ≡ c → (marksFault ms ≡ Fine) × (wordsOf ms ≡ ws)

@@ -4,6 +4,7 @@
 --     RoundTrip  the reading functions answer of a written packet what its records ask
 --     Careful    a carefully written packet misleads no reader that keeps the old reading
 --     Marks      words from heard marks cover them, and a report made of them reads back as the numbers heard
+--     NoLostRun  nothing made here holds a run of ones of no length: words from marks, packets, one chunk word
 --     Portions   however a packet's bytes are divided into calls, they show what the whole packet shows
 --     Text       whatever buffer a text goes through, it is written out or waits; a number's digits are its own
 -- and the crate of examples: the twelve examples and the worked facts of every clause of the definitions. proofs/
@@ -13,5 +14,6 @@ pub mod Walk
 pub mod RoundTrip
 pub mod Careful
 pub mod Marks
+pub mod NoLostRun
 pub mod Portions
 pub mod Text

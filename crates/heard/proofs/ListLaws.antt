@@ -3,17 +3,17 @@
 --     list-bytes        it is bytes
 --     list-jobs         its records
 --     loss-fields, ..   what the second asks for
---     list-good         neither is bad
+--     list-good         neither is bad, where no word is a run of no length
 use Prim.Native.Nat.{ℕ, zero, suc, _+_, _*_, _-_, _/_, _%_, _≤_, _<_}
 use mathlib.Core.Path.{_≡_, refl, sym, ap, subst, _∙_}
-use mathlib.Core.Bool.{true}
+use mathlib.Core.Bool.{true, false}
 use mathlib.Core.List.{List, [], _∷_, _++_, append-nil}
 use native.Mathlib.Omega.{arith}
 use lib.ListN.{length, drop, length-append}
 use lib.Seq.{take-append-seam, drop-append-seam, drop-drop}
 use borrow.Author.Tests.{le-leb, lt-leb}
 use Rattle.def_refusals.specs.declared.Checked.the-variants.{Fine}
-use Rattle.def_wire.specs.Block.{rleOf, rangedOf, kindOf}
+use Rattle.def_wire.specs.Block.{rleOf, rangedOf, kindOf, lostRun, has}
 use Rattle.def_jobs.specs.Jobs.{le16, le32, pairLow, Job, isWhole, jobAt, jobsFrom, jobsOf, senderOf}
 use Rattle.def_jobs.specs.Jobs.{isHeaderJob, jobFields, jobWords, isBlockJob, jobsFault}
 use Rattle.def_jobs.specs.Layout.{bytesOf}
@@ -172,13 +172,14 @@ module _ (media b e : ℕ) (ws : List ℕ) where
   pub length-loss : length (lossJob media b e ws .body) ≡ 10 + 2 * length ws
   length-loss = omega (arith, length-bytesOf low2 2 (λ x. refl) ws)
 
-  pub loss-good : isBlockJob (lossJob media b e ws) ≡ true
+  pub loss-good : has lostRun (jobWords (lossJob media b e ws)) ≡ false → isBlockJob (lossJob media b e ws) ≡ true
   unfolding isBlockJob kindOf rangedOf rleOf
-  loss-good =
+  loss-good c =
       let n = length-loss in
       let r : (length (lossJob media b e ws .body) - 10) % 2 ≡ 0 = omega (arith, n) in
-      rw (le-leb 10 (length (lossJob media b e ws .body)) (omega (arith, n)), r)
+      rw (le-leb 10 (length (lossJob media b e ws .body)) (omega (arith, n)), r, c)
 
-pub list-good : (sender media b e : ℕ) (ws : List ℕ) → jobsFault 0 (headerJob sender ∷ lossJob media b e ws ∷ []) ≡ Fine
+pub list-good : (sender media b e : ℕ) (ws : List ℕ) → has lostRun (jobWords (lossJob media b e ws)) ≡ false
+    → jobsFault 0 (headerJob sender ∷ lossJob media b e ws ∷ []) ≡ Fine
 unfolding jobsFault
-list-good sender media b e ws = rw (header-good sender, loss-good media b e ws)
+list-good sender media b e ws c = rw (header-good sender, loss-good media b e ws c)

@@ -16,15 +16,18 @@ use Rattle.def_refusals.specs.declared.Checked.the-variants.{Fine, Unfit}
 use Rattle.def_refusals.specs.Answers.{shown}
 use Rattle.def_wire.specs.declared.Reading.the-variants.{Crate}
 use Rattle.def_wire.specs.declared.Rle.the-variants.{Loss}
+use Rattle.def_wire.specs.declared.Ranged.the-variants.{Chunks}
+use Rattle.def_wire.specs.declared.Kind.the-variants.{Spans}
+use Rattle.def_wire.specs.declared.KindOr.the-variants.{AKind}
 use Rattle.def_wire.specs.declared.Fields.{Fields}
-use Rattle.def_wire.specs.Block.{rleOf, rangedOf, kindOf}
+use Rattle.def_wire.specs.Block.{rleOf, rangedOf, kindOf, lostRun, has}
 use Rattle.def_standard.specs.Range.{rangeOf}
 use Rattle.def_standard.specs.Standard.{numbersOf}
 use Rattle.def_crate.specs.Crate.{crateNumbers}
 use Rattle.def_jobs.specs.declared.Layout.{Layout}
 use Rattle.def_jobs.specs.declared.Layout.the-variants.{Plain, Careful}
 use Rattle.def_jobs.specs.Shown.{reported, recordOf}
-use Rattle.def_jobs.specs.Jobs.{Job, jobFields, jobWords, jobsOf, askedOf, hasFields, isBlockJob}
+use Rattle.def_jobs.specs.Jobs.{Job, jobFields, jobWords, jobsOf, askedOf, isBody, isBlockJob}
 use Rattle.def_jobs.specs.Layout.{blockBytes, blocksBytes, layoutOf}
 use Rattle.def_jobs.specs.Writing.{maxBytes, misleadFault, writeFault, packetOf}
 use Rattle.block_size.proofs.LayoutLaws.{block-fits}
@@ -38,7 +41,7 @@ use Rattle.def_marks.specs.Marks.{wordsOf}
 use Rattle.def_marks.specs.Report.{endOf, reportOf, heardOf}
 use Rattle.marked.specs.Marked.{Marks}
 use Rattle.marked.proofs.WordsLaws.{words-few}
-use Rattle.heard.proofs.ValuesLaws.{words-under}
+use Rattle.heard.proofs.ValuesLaws.{words-under, words-clear}
 use Rattle.heard.proofs.HeardLaws.{heardFields, numbers-heard, quiet-heard}
 use Rattle.heard.proofs.ListLaws.{headerJob, lossJob, list-jobs, list-good, header-bytes, loss-bytes}
 use Rattle.heard.proofs.ListLaws.{length-loss, loss-fields, loss-words, loss-good}
@@ -64,6 +67,9 @@ module _ (sender media b : ℕ) (ms : List ℕ) (m : media < 4294967296) (h : b 
   words-are : jobWords second ≡ wordsOf ms
   words-are = loss-words media b (endOf b ms) (wordsOf ms) (words-under ms marks)
 
+  loss-clear : has lostRun (jobWords second) ≡ false
+  loss-clear = ap (has lostRun) words-are ∙ words-clear ms marks
+
   pub report-asks : askedOf second ≡ reported Loss (heardFields media b ms) (heardOf b ms)
   unfolding askedOf kindOf rangedOf rleOf
   report-asks = rw (fields-are, words-are, numbers-heard media b ms h k marks)
@@ -73,7 +79,7 @@ module _ (sender media b : ℕ) (ms : List ℕ) (m : media < 4294967296) (h : b 
   report-size : (layout : Layout) → layoutFault layout (first ∷ second ∷ []) ≡ Fine
   unfolding layoutOf blocksBytes
   report-size layout =
-      let l = block-fits layout second (loss-good media b (endOf b ms) (wordsOf ms)) in
+      let l = block-fits layout second (loss-good media b (endOf b ms) (wordsOf ms) loss-clear) in
       let n = length-loss media b (endOf b ms) (wordsOf ms) in
       let s : length (layoutOf layout (first ∷ second ∷ [])) ≤ 262144 =
       omega (
@@ -88,7 +94,8 @@ module _ (sender media b : ℕ) (ms : List ℕ) (m : media < 4294967296) (h : b 
 
   pub report-fit : (layout : Layout) → Fit layout first (second ∷ []) (layoutOf layout (first ∷ second ∷ []))
   report-fit layout =
-      fit layout first (second ∷ []) (list-good sender media b (endOf b ms) (wordsOf ms)) (report-size layout)
+      fit layout first (second ∷ []) (list-good sender media b (endOf b ms) (wordsOf ms) loss-clear)
+      (report-size layout)
 
   pub bodies-are : Body first × Each Body (second ∷ [])
   bodies-are = (header-bytes sender, (loss-bytes media b (endOf b ms) (wordsOf ms), tt))
@@ -115,7 +122,12 @@ module _ (sender media b : ℕ) (ms : List ℕ) (m : media < 4294967296) (h : b 
       → packetOf layout (reportOf sender media b ms) ≡ shown (layoutOf layout (first ∷ second ∷ []))
   unfolding packetOf writeFault
   report-written layout =
-      rw (report-jobs, list-good sender media b (endOf b ms) (wordsOf ms), report-size layout, never-fifteen layout)
+      rw (
+        report-jobs,
+        list-good sender media b (endOf b ms) (wordsOf ms) loss-clear,
+        report-size layout,
+        never-fifteen layout,
+      )
 
   -- ---- the old reading
 
@@ -123,8 +135,8 @@ module _ (sender media b : ℕ) (ms : List ℕ) (m : media < 4294967296) (h : b 
   none-more [] e = refl
   none-more (x ∷ l) e = true≢false (sym e)
 
-  old-numbers : (good : hasFields second 2 ≡ true) (body : Body second) → length (chunksBlock Loss second) ≤ maxBytes
-      → crateNumbers (chunksBlock Loss second ++ []) ≡ heardOf b ms
+  old-numbers : (good : isBody (AKind (Spans (Chunks Loss))) second ≡ true) (body : Body second)
+      → length (chunksBlock Loss second) ≤ maxBytes → crateNumbers (chunksBlock Loss second ++ []) ≡ heardOf b ms
   old-numbers good body small =
       let lead = standard-first Loss second good body [] small in
       let l : List ℕ = numbersOf (rangeOf (jobFields second)) (jobWords second) in
@@ -137,7 +149,7 @@ module _ (sender media b : ℕ) (ms : List ℕ) (m : media < 4294967296) (h : b 
       ≡ shown (reported Loss (heardFields media b ms) (heardOf b ms))
   unfolding blockBytes isBlockJob kindOf rangedOf rleOf
   report-old =
-      let good : isBlockJob second ≡ true = loss-good media b (endOf b ms) (wordsOf ms) in
+      let good : isBlockJob second ≡ true = loss-good media b (endOf b ms) (wordsOf ms) loss-clear in
       let body : Body second = bodies-are .1 .0 in
       let small : length (chunksBlock Loss second) ≤ maxBytes =
       omega (arith, block-fits Careful second good, length-loss media b (endOf b ms) (wordsOf ms), few) in

@@ -5,8 +5,10 @@
 --     by-marks                      marked's `by-words`, of marks
 --     covers-mark, covers-behind    the value at a mark's position, and at one behind the last
 --     words-cover, words-below      each word covers 15 positions or more, and has 16 bits
+--     words-clear                   so none is a run of ones of no length
 use Prim.Native.Nat.{ℕ, zero, suc, _+_, _*_, _-_, _/_, _%_, _^_, _≤_, _<_, min}
 use mathlib.Core.Path.{_≡_, refl, sym, ap, _∙_}
+use mathlib.Core.Bool.{false}
 use mathlib.Core.List.{List, [], _∷_, _++_, append-nil}
 use native.Mathlib.Nat.{mod-eq-of-lt, zero-sub, sub-zero, suc-sub-suc, zero-add}
 use native.Mathlib.Omega.{arith}
@@ -16,7 +18,9 @@ use lib.Dec.{leb, ltb}
 use lib.Pow.{high, low}
 use borrow.Author.Tests.{leb-true, leb-false, ltb-true, ltb-false}
 use Rattle.laws.proofs.Tests.{either}
+use Rattle.utils.proofs.ClearLaws.{has-none}
 use Rattle.written.proofs.Lists.{Under}
+use Rattle.def_wire.specs.Block.{lostRun, has}
 use Rattle.def_standard.specs.Chunks.{coversOf, valueOf, valuesIn}
 use Rattle.def_standard.specs.Standard.{valuesOf}
 use Rattle.chunk.proofs.ChunkLaws.{length-valuesIn, values-run, values-at}
@@ -156,6 +160,11 @@ module _ (P : ℕ → Type 0) (next : (ms : List ℕ) → Marks ms → P (wordFo
 
 pub words-cover : (ms : List ℕ) → Marks ms → (i : ℕ) → i < length (wordsOf ms) → 15 ≤ coversOf (getD (wordsOf ms) i 0)
 words-cover = each-word (λ w. 15 ≤ coversOf w) (λ ms marks. rw (covers-word ms marks) (taken-least ms))
+
+pub words-clear : (ms : List ℕ) → Marks ms → has lostRun (wordsOf ms) ≡ false
+words-clear ms marks =
+    has-none lostRun (wordsOf ms)
+    (λ i h e. absurd (let z : 15 ≤ coversOf 16384 = rw e at (words-cover ms marks i h) in omega arith))
 
 pub words-below : (ms : List ℕ) → Marks ms → (i : ℕ) → i < length (wordsOf ms) → getD (wordsOf ms) i 0 < 65536
 words-below = each-word (λ w. w < 65536) word-below

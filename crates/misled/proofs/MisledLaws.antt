@@ -14,7 +14,7 @@ use Rattle.def_wire.specs.Block.{kindOf}
 use Rattle.def_standard.specs.Range.{rangeOf}
 use Rattle.def_jobs.specs.Jobs.{Job, jobFields, isBlockJob, jobWords}
 use Rattle.block_size.specs.Judged.{Fielded}
-use Rattle.block_size.proofs.JudgeLaws.{fields-are, block-words, block-times}
+use Rattle.block_size.proofs.JudgeLaws.{fields-are, good-words, block-words, block-times}
 use Rattle.block_size.proofs.ZerosLaws.{length-times}
 use Rattle.misled.specs.Misled.{goesOn, misledTimes, misledEchoes, misledBy}
 
@@ -39,7 +39,7 @@ module _ (j : Job) (behind : ℕ) where
 
     module _ (a : Rle) (e : kindOf (j .kind) ≡ AKind (Spans (Chunks a))) where
       pub fielded-words : Fielded (j .body) 2
-      fielded-words = fields-are j 2 (sym (block-words j a e) ∙ b)
+      fielded-words = good-words j (sym (block-words j a e) ∙ b)
 
       pub misled-words : goesOn (rangeOf (jobFields j)) (jobFields j .end) 0 (jobWords j) ≡ misledBy j behind
       unfolding misledBy

@@ -11,7 +11,7 @@ use mathlib.Core.Path.{_≡_, refl}
 use mathlib.Core.Bool.{Bool, true, false}
 use mathlib.Core.List.{List, [], _∷_, _++_}
 use lib.ListN.{replicate}
-use Rattle.def_wire.specs.Block.{rleOf, rangedOf, kindOf}
+use Rattle.def_wire.specs.Block.{rleOf, rangedOf, kindOf, has}
 use Rattle.def_standard.specs.Chunks.{valuesIn}
 use Rattle.def_standard.specs.Range.{rangeOf, offsetOf, inside, numberOf}
 use Rattle.def_crate.specs.Sequence.{passes}
@@ -45,8 +45,8 @@ pub record Words : Type 0 where
   pub around : (loss 0 0 15 (16387 ∷ []) ≡ true) × (loss 0 40000 15 (16387 ∷ []) ≡ true)
 
 pub words-hold : Words
-unfolding rleOf rangedOf kindOf valuesIn rangeOf offsetOf inside numberOf passes pairLow isBlockJob outsideFrom goesOn
-    misledBy
+unfolding rleOf rangedOf kindOf has valuesIn rangeOf offsetOf inside numberOf passes pairLow isBlockJob outsideFrom
+    goesOn misledBy
 words-hold =
     record {
       of-two = (refl, refl, refl, refl);

@@ -32,7 +32,7 @@ use Rattle.def_crate.specs.Crate.{onesIn, triesFrom, crateNumbersFrom, crateWor
 use Rattle.def_questions.specs.Questions.{numbersShown}
 use Rattle.def_jobs.specs.declared.Layout.the-variants.{Careful}
 use Rattle.def_jobs.specs.Shown.{reported, recordOf, sameRow, sameRecord, numbersRow, rowOf}
-use Rattle.def_jobs.specs.Jobs.{Job, jobFields, jobWords, hasFields}
+use Rattle.def_jobs.specs.Jobs.{Job, jobFields, jobWords, isBody}
 use Rattle.def_jobs.specs.Layout.{isOdd, lastWord, zerosBehind, wordsBytes, bytesAs}
 use Rattle.def_jobs.specs.Writing.{maxBytes, differs}
 use Rattle.misled.specs.Misled.{misledWords}
@@ -40,8 +40,8 @@ use Rattle.utils.proofs.BytesLaws.{length-pairUp}
 use Rattle.written.proofs.Lists.{under-drop, last-behind}
 use Rattle.written.proofs.RecordsLaws.{Body}
 use Rattle.written.proofs.WordsLaws.{under-low16, block-words, words-even}
-use Rattle.written.proofs.BlockLaws.{kind-rle, fields-back}
-use Rattle.written.proofs.JobLaws.{job-fits, laid-as}
+use Rattle.written.proofs.BlockLaws.{Fits, kind-rle, fields-back}
+use Rattle.written.proofs.JobLaws.{job-fits, words-good, laid-as}
 use Rattle.old_readers.proofs.Same.{same-self, same-more}
 use Rattle.old_readers.proofs.GoesOnLaws.{isSome, Leads, standard-leads}
 
@@ -115,7 +115,7 @@ reports-differ a f {l} h = rw (← h .split) (rows-differ (rleType a ∷ rowOf f
 abbrev pub chunksBlock : Rle → Job → List ℕ
 chunksBlock a j = bytesAs (AKind (Spans (Chunks a))) Careful j
 
-module _ (a : Rle) (j : Job) (good : hasFields j 2 ≡ true) (body : Body j) (rest : List ℕ)
+module _ (a : Rle) (j : Job) (good : isBody (AKind (Spans (Chunks a))) j ≡ true) (body : Body j) (rest : List ℕ)
     (fits : length (chunksBlock a j) ≤ maxBytes) where
   abbrev f : Fields
   f = jobFields j
@@ -130,8 +130,11 @@ module _ (a : Rle) (j : Job) (good : hasFields j 2 ≡ true) (body : Body j) (re
   announced : blockLength view ≡ length (chunksBlock a j)
   announced = laid-as (AKind (Spans (Chunks a))) Careful j good body .announces fits
 
+  held : Fits f
+  held = job-fits j 2 (words-good a j good .0) body
+
   fields-shown : fieldsAt view ≡ f
-  fields-shown = fields-back (rleType a) f (wordsBytes Careful ws ++ rest) (job-fits j 2 good body)
+  fields-shown = fields-back (rleType a) f (wordsBytes Careful ws ++ rest) held
 
   check-fine : checkOf Crate (Spans (Chunks a)) view ≡ Fine
   unfolding checkOf fitness crateRule
@@ -161,7 +164,7 @@ module _ (a : Rle) (j : Job) (good : hasFields j 2 ≡ true) (body : Body j) (re
   -- the standard's list is a prefix of the crate's
   pub standard-first : Leads (numbersOf (rangeOf (jobFields j)) (jobWords j)) (crateNumbers (chunksBlock a j ++ rest))
       (misledWords (jobFields j) (jobWords j))
-  standard-first = let h = job-fits j 2 good body in rw numbers-shown (standard-leads f (h .begin) (h .end) ws)
+  standard-first = rw numbers-shown (standard-leads f (held .begin) (held .end) ws)
 
   pub crate-shows : recordOf Crate (chunksBlock a j ++ rest) ≡ shown (reported a f (crateNumbers view))
   unfolding recordOf fieldsOf numbersShown

@@ -1,5 +1,5 @@
 -- The laws of a block's fitness to be read, and of words that hold no run of ones of no length. Assumes nothing.
---     then-fine, both-fine       two checks, one after the other
+--     then-fine                  a check, and then none
 --     fit-*                      the standard's fitness, kind by kind: the length, and of types 1 and 2 the words
 --     clear-fine, clear-lost     a rule that words meet, or do not; fine-clear, what it says where it is met
 --     has-*                      whether a word is among others: one by one, behind each other, by their indices

@@ -4,6 +4,7 @@
 --     rle-laid, times-laid, clock-laid, echoes-laid     the blocks of each kind
 use Prim.Native.Nat.{ℕ, _+_, _-_, _/_, _%_, _≤_, _<_, _^_}
 use mathlib.Core.Path.{_≡_, refl, ap}
+use mathlib.Core.Bool.{false}
 use mathlib.Core.List.{List, [], _++_}
 use native.Mathlib.Nat.{mod-eq-of-lt}
 use native.Mathlib.Omega.{arith}
@@ -22,7 +23,8 @@ use Rattle.def_wire.specs.declared.KindOr.the-variants.{AKind}
 use Rattle.def_wire.specs.declared.Fields.{Fields}
 use Rattle.def_wire.specs.Bytes.{words16, words32, two, four, eight}
 use Rattle.def_wire.specs.Block.{typeOf, fieldsAt, kindType, rleType, receiptType, clockType, echoType}
-use Rattle.def_wire.specs.Block.{rleOf, rangedOf, kindOf, standardRule, fitness, checkOf, fieldsOf, timeOf}
+use Rattle.def_wire.specs.Block.{rleOf, rangedOf, kindOf, standardRule, lostRun, has, wordRule, fitness, checkOf}
+use Rattle.def_wire.specs.Block.{fieldsOf, timeOf}
 use Rattle.def_standard.specs.Range.{rangeOf}
 use Rattle.def_standard.specs.Standard.{numbersOf, pairsOf, echoesOf}
 use Rattle.def_questions.specs.Questions.{numbersShown, pairsShown, entriesShown}
@@ -30,6 +32,7 @@ use Rattle.def_jobs.specs.Shown.{Record, reported, received, clocked, echoed, r
 use Rattle.def_jobs.specs.Layout.{head, withFields}
 use Rattle.def_jobs.specs.Writing.{maxBytes}
 use Rattle.utils.proofs.BytesLaws.{be16-two, be32-four, be64-eight}
+use Rattle.utils.proofs.ClearLaws.{fit-fine, clear-fine}
 use Rattle.written.proofs.WalkLaws.{Announces}
 
 -- ---- the length field
@@ -42,9 +45,9 @@ announces-head type specific behind rest e m h =
 -- ---- a block that is fit to be read
 
 check-fine : (k : Kind) (v : List ℕ) → typeOf v ≡ kindType k → standardRule k (length v) ≡ Fine
-    → checkOf Standard k v ≡ Fine
-unfolding checkOf fitness
-check-fine k v t r = rw (eq-eqb _ _ t, r)
+    → wordRule k (length v) v ≡ Fine → checkOf Standard k v ≡ Fine
+unfolding checkOf
+check-fine k v t r w = rw (eq-eqb _ _ t) (fit-fine v k r w)
 
 -- ---- fields
 
@@ -90,15 +93,16 @@ kind-rle Loss = refl
 kind-rle Duplicate = refl
 
 module _ (f : Fields) (rest : List ℕ) (h : Fits f) (m : length rest % 4 ≡ 0) where
-  pub rle-laid : (a : Rle)
+  pub rle-laid : (a : Rle) → has lostRun (words16 rest) ≡ false
       → Laid (withFields (rleType a) f rest) (reported a f (numbersOf (rangeOf f) (words16 rest)))
   unfolding recordOf fieldsOf numbersShown
-  rle-laid a =
+  rle-laid a c =
       let v = withFields (rleType a) f rest in
+      let w = clear-fine (length v) (words16 rest) c in
       record {
         whole = omega arith;
         announces = announces-fields (rleType a) f rest m;
-        shows = rw (kind-rle a, check-fine (Spans (Chunks a)) v refl (fields-fit (rleType a) f rest (Chunks a)))
+        shows = rw (kind-rle a, check-fine (Spans (Chunks a)) v refl (fields-fit (rleType a) f rest (Chunks a)) w)
             (ap (λ (x : Fields). shown (reported a x (numbersOf (rangeOf x) (words16 rest))))
             (fields-back (rleType a) f rest h));
       }
@@ -110,7 +114,7 @@ module _ (f : Fields) (rest : List ℕ) (h : Fits f) (m : length rest % 4 ≡ 0)
       record {
         whole = omega arith;
         announces = announces-fields receiptType f rest m;
-        shows = rw (check-fine (Spans Times) v refl (fields-fit receiptType f rest Times))
+        shows = rw (check-fine (Spans Times) v refl (fields-fit receiptType f rest Times) refl)
             (ap (λ (x : Fields). shown (received x (pairsOf (rangeOf x) (words32 rest))))
             (fields-back receiptType f rest h));
       }
@@ -133,5 +137,5 @@ echoes-laid n rest e m =
     record {
       whole = omega arith;
       announces = announces-head echoType 0 n rest e (omega arith);
-      shows = rw (check-fine Echoes v refl (rw (eq-eqb _ _ k)));
+      shows = rw (check-fine Echoes v refl (rw (eq-eqb _ _ k)) refl);
     }

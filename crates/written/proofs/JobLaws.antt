@@ -1,19 +1,20 @@
 -- The block of a good record is laid as the record asks, for each kind. Assumes nothing.
 use Prim.Native.Nat.{ℕ, _+_, _%_, _<_, _^_}
 use mathlib.Core.Path.{_≡_, refl}
-use mathlib.Core.Bool.{true}
+use mathlib.Core.Bool.{Bool, true, false, not}
 use mathlib.Core.List.{List}
 use native.Mathlib.Omega.{arith}
 use lib.ListN.{length, drop}
 use lib.Dec.{leb}
 use borrow.Author.Tests.{leb-true, eqb-true}
 use Rattle.laws.proofs.Tests.{and-true, true≢false}
+use Rattle.def_wire.specs.declared.Rle.{Rle}
 use Rattle.def_wire.specs.declared.Ranged.the-variants.{Chunks, Times}
 use Rattle.def_wire.specs.declared.Kind.the-variants.{Spans, Clock, Echoes}
 use Rattle.def_wire.specs.declared.KindOr.{KindOr}
 use Rattle.def_wire.specs.declared.KindOr.the-variants.{AKind, NoKind}
 use Rattle.def_wire.specs.Bytes.{four}
-use Rattle.def_wire.specs.Block.{kindOf}
+use Rattle.def_wire.specs.Block.{lostRun, has, kindOf}
 use Rattle.def_standard.specs.Range.{rangeOf}
 use Rattle.def_jobs.specs.declared.Layout.{Layout}
 use Rattle.def_jobs.specs.Jobs.{Job, le16, le32, le64, low32, jobFields, jobWords, jobTimes, hasFields, isBody}
@@ -24,7 +25,7 @@ use Rattle.little_endian.proofs.LowLaws.{length-low32, length-bytesOf}
 use Rattle.written.proofs.Lists.{under-drop}
 use Rattle.written.proofs.RecordsLaws.{Body}
 use Rattle.written.proofs.WordsLaws.{under-low16, under-low32, words32-bytes}
-use Rattle.written.proofs.WordsLaws.{numbers-behind, words-even}
+use Rattle.written.proofs.WordsLaws.{clear-behind, numbers-behind, words-even}
 use Rattle.written.proofs.BlockLaws.{Fits, Laid, rle-laid, times-laid, clock-laid, echoes-laid}
 
 -- ---- little-endian numbers of bytes
@@ -50,12 +51,25 @@ job-fits j n g h =
       thinning = leb-true _ _ (q .0);
     }
 
+-- a good record's words: fields before them, and no run of ones of no length among them
+pub words-good : (a : Rle) (j : Job) → isBody (AKind (Spans (Chunks a))) j ≡ true
+    → (hasFields j 2 ≡ true) × (has lostRun (jobWords j) ≡ false)
+words-good a j g =
+    let p = and-true (hasFields j 2) _ g in
+    (p .0, not-true (has lostRun (jobWords j)) (p .1))
+  where
+    not-true : (b : Bool) → not b ≡ true → b ≡ false
+    not-true true e = true≢false e
+    not-true false e = refl
+
 pub laid-as : (k : KindOr) (layout : Layout) (j : Job) → isBody k j ≡ true → Body j
     → Laid (bytesAs k layout j) (askedAs k j)
 laid-as (AKind (Spans (Chunks a))) layout j g h =
     let u = under-low16 (drop 10 (j .body)) (under-drop 256 10 (j .body) h) in
+    let w = words-good a j g in
     rw (numbers-behind layout (rangeOf (jobFields j)) (jobWords j) u) at
-    (rle-laid (jobFields j) (wordsBytes layout (jobWords j)) (job-fits j 2 g h) (words-even layout (jobWords j)) a)
+    (rle-laid (jobFields j) (wordsBytes layout (jobWords j)) (job-fits j 2 (w .0) h) (words-even layout (jobWords j)) a
+    (clear-behind layout (jobWords j) u (w .1)))
 laid-as (AKind (Spans Times)) layout j g h =
     let u = under-low32 (drop 10 (j .body)) (under-drop 256 10 (j .body) h) in
     let l = length-bytesOf four 4 (λ x. refl) (jobTimes j) in

@@ -2,8 +2,10 @@
 --     under-low16, under-low32                     a body's numbers, and their bounds
 --     words16-bytes, words32-behind, ..            their bytes read back, with more bytes behind them and without
 --     block-words, numbers-behind, words-even      a block's words: the record's and zero words, which show nothing
+--     clear-behind                                 none of them is a run of no length, where none of the record's is
 use Prim.Native.Nat.{ℕ, zero, suc, _+_, _*_, _%_, _<_}
 use mathlib.Core.Path.{_≡_, refl, ap, _∙_}
+use mathlib.Core.Bool.{false}
 use mathlib.Core.List.{List, [], _∷_, _++_, append-nil}
 use native.Mathlib.Nat.{add-comm}
 use native.Mathlib.Omega.{arith}
@@ -13,6 +15,7 @@ use lib.Dec.{lit<, eqb}
 use borrow.Author.Tests.{eqb-true, eqb-false}
 use Rattle.laws.proofs.Tests.{both}
 use Rattle.def_wire.specs.Bytes.{pairUp, two, four, words16, words32}
+use Rattle.def_wire.specs.Block.{lostRun, has}
 use Rattle.def_standard.specs.declared.Range.{Range}
 use Rattle.def_standard.specs.Chunks.{valuesIn}
 use Rattle.def_standard.specs.Standard.{valuesOf, numbersFrom, numbersOf}
@@ -21,6 +24,7 @@ use Rattle.def_jobs.specs.declared.Layout.the-variants.{Plain, Careful}
 use Rattle.def_jobs.specs.Jobs.{pairLow, low16, low32}
 use Rattle.def_jobs.specs.Layout.{bytesOf, isOdd, lastWord, zerosBehind, wordsBytes}
 use Rattle.utils.proofs.BytesLaws.{Bytes, words16-two, words32-four}
+use Rattle.utils.proofs.ClearLaws.{has-append, has-zeros}
 use Rattle.little_endian.proofs.LowLaws.{length-bytesOf}
 use Rattle.written.proofs.Lists.{Under}
 
@@ -82,6 +86,13 @@ values-behind : (ws : List ℕ) (z : ℕ) → valuesOf (ws ++ replicate z 0) ≡
 unfolding valuesOf
 values-behind [] z = values-zeros z
 values-behind (w ∷ ws) z = ap (λ (l : List ℕ). valuesIn w ++ l) (values-behind ws z)
+
+-- no run of ones of no length, where the record has none
+pub clear-behind : (layout : Layout) (ws : List ℕ) → Under 65536 ws → has lostRun ws ≡ false
+    → has lostRun (words16 (wordsBytes layout ws)) ≡ false
+clear-behind layout ws h c =
+    let z = zerosBehind layout ws in
+    ap (has lostRun) (block-words layout ws h) ∙ has-append lostRun ws (replicate z 0) ∙ rw c (has-zeros z)
 
 -- they show what the record's words show
 pub numbers-behind : (layout : Layout) (g : Range) (ws : List ℕ) → Under 65536 ws

@@ -44,7 +44,7 @@ returns c = let h = c .before .before in
     let f = g .before .before .before .before .before in
     let e = spans g _ (t .enum-told .given .1) in
     judged-words (f .before .before .args .layout) (job f) (t .enum-told .given .0 .0) e
-    (sym (h .has-fields .ensures) ∙ c .before .if1 .taken) (c .zeros-behind .result) (c .zeros-behind .ensures)
+    (sym (h .has-words .ensures) ∙ c .before .if1 .taken) (c .zeros-behind .result) (c .zeros-behind .ensures)
 
 returns-2 : tie.Need-returns-2
 returns-2 c = let h = c .before in
@@ -53,7 +53,7 @@ returns-2 c = let h = c .before in
     let f = g .before .before .before .before .before in
     judged-bad (f .before .before .args .layout) (job f)
     (block-words (job f) (t .enum-told .given .0 .0) (spans g _ (t .enum-told .given .1))
-    ∙ sym (h .has-fields .ensures) ∙ c .if1 .left)
+    ∙ sym (h .has-words .ensures) ∙ c .if1 .left)
 
 returns-3 : tie.Need-returns-3
 returns-3 c = let h = c .before in
@@ -61,7 +61,7 @@ returns-3 c = let h = c .before in
     let g = t .before .before .before in
     let f = g .before .before .before .before .before in
     judged-times (f .before .before .args .layout) (job f) (spans g _ (t .enum-told2 .given .1))
-    (sym (h .has-fields2 .ensures) ∙ c .if2 .taken)
+    (sym (h .has-fields .ensures) ∙ c .if2 .taken)
 
 returns-4 : tie.Need-returns-4
 returns-4 c = let h = c .before in
@@ -69,7 +69,7 @@ returns-4 c = let h = c .before in
     let g = t .before .before .before in
     let f = g .before .before .before .before .before in
     judged-bad (f .before .before .args .layout) (job f)
-    (block-times (job f) (spans g _ (t .enum-told2 .given .1)) ∙ sym (h .has-fields2 .ensures) ∙ c .if2 .left)
+    (block-times (job f) (spans g _ (t .enum-told2 .given .1)) ∙ sym (h .has-fields .ensures) ∙ c .if2 .left)
 
 returns-5 : tie.Need-returns-5
 returns-5 c = let t = c .before in

@@ -10,7 +10,7 @@ use Rattle.def_wire.specs.Block.{kindOf}
 use Rattle.def_jobs.specs.Jobs.{Job}
 use Rattle.jobs.specs.Places.{jobOf}
 use Rattle.jobs.proofs.KindLaws.{kind-is, kind-spans}
-use Rattle.block_size.proofs.JudgeLaws.{fields-are, block-words, block-times, block-clock}
+use Rattle.block_size.proofs.JudgeLaws.{fields-are, good-words, block-words, block-times, block-clock}
 use Rattle.builder.proofs.JobLaws.{block-room, block-wrote}
 use Rattle.builder.proofs.write_block.Statement.{statement}
 use Rattle.builder.proofs.write_block.Tie as tie
@@ -56,7 +56,7 @@ write-words-requires c κs =
     let t = c .before .before in
     let s = start-spans (t .before .before) in
     let j = job s in
-    (fields-are j 2 (sym (block-words j _ (words t)) ∙ s .pre .0), block-room _ _ (words t) _ _ (s .pre .1))
+    (good-words j (sym (block-words j _ (words t)) ∙ s .pre .0), block-room _ _ (words t) _ _ (s .pre .1))
 
 write-times-requires : tie.Need-write-times-requires
 write-times-requires c κs =
