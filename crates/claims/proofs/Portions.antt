@@ -23,14 +23,14 @@ use Rattle.def_wire.specs.declared.KindOr.{KindOr}
 use Rattle.def_wire.specs.declared.KindOr.the-variants.{AKind, NoKind}
 use Rattle.def_wire.specs.Packet.{announcedOf, isPadded, versionOf}
 use Rattle.def_wire.specs.Bytes.{byteAt, four}
-use Rattle.def_wire.specs.Block.{rule, nextFit, typeOf, blockLength, kindOf, standardRule}
+use Rattle.def_wire.specs.Block.{rule, nextFit, typeOf, blockLength, kindOf, standardRule, lostRun, has, clearRule}
 use Rattle.def_questions.specs.Questions.{least3}
 use Rattle.def_portions.specs.declared.Event.{Event}
 use Rattle.def_portions.specs.Events.{Course, course, courseOf, need, headFault, blockFault, ruleOf}
 use Rattle.def_portions.specs.Calls.{Call, callOf, pastFault, roomFault}
 use Rattle.states.specs.declared.Portions.{Portions}
 use Rattle.states.specs.declared.Followed.{Followed}
-use Rattle.states.specs.Steps.{start, head, block, low32, faultOf, after, shows}
+use Rattle.states.specs.Steps.{start, head, block, word, low16, low32, faultOf, after, shows}
 use Rattle.states.specs.Call.{announcedBy, takenIn, pastOf, pastBy, callFault, followedBy}
 use Rattle.states.specs.Call.{followedOf, givenBy, givenOf, Following}
 use Rattle.states.proofs.RunLaws.{after-append, shows-append, after-closed, shows-closed}
@@ -206,7 +206,7 @@ module _ (n m : ℕ) where
       absurd (let q : _≡_ {A = ℕ} 0 1 = cc in omega arith))))
 
   not-room : (st : Portions) → faultOf st ≡ Unfit (NoRoom n m) → ⊥
-  unfolding faultOf blockFault
+  unfolding faultOf blockFault clearRule
   not-room st =
       by-test (eqb (st .missing) 0)
       (λ t. by-test (eqb (st .item) head) (λ h e. head-not (four (low32 (st .held))) e)
@@ -216,7 +216,9 @@ module _ (n m : ℕ) where
       (λ (e : BlockTooLong (blockLength v) (st .behind + 4) ≡ NoRoom n m).
       absurd (let q : _≡_ {A = ℕ} 0 1 = cc in omega arith))
       (by-kind (kindOf (typeOf v)) (blockLength v)))
-      (λ b e. unlike e)))
+      (λ b. by-test (eqb (st .item) word)
+      (λ w e. ruled (not (has lostRun (low16 (st .held) ∷ []))) 12 (blockLength (four (st .known .block))) e)
+      (λ w e. unlike e))))
       (λ t e. unlike e)
 
   -- a refusal as 11 says that there are more events than room

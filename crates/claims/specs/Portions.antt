@@ -19,17 +19,16 @@ use Rattle.def_refusals.specs.declared.Checked.the-variants.{Fine, Unfit}
 use Rattle.def_wire.specs.declared.Reading.the-variants.{Standard}
 use Rattle.def_wire.specs.Bytes.{byteAt}
 use Rattle.def_wire.specs.Packet.{countOf, isPadded}
-use Rattle.def_wire.specs.Block.{typeOf, kindOf}
 use Rattle.def_questions.specs.Questions.{least3}
 use Rattle.def_portions.specs.declared.Event.{Event}
-use Rattle.def_portions.specs.Events.{course, courseOf, ruleOf}
+use Rattle.def_portions.specs.Events.{course, courseOf}
 use Rattle.def_portions.specs.Calls.{Call, callOf, pastFault}
 use Rattle.states.specs.declared.Portions.{Portions}
 use Rattle.states.specs.declared.Followed.{Followed}
 use Rattle.states.specs.Steps.{start}
 use Rattle.states.specs.Call.{Following}
 use Rattle.event_lists.specs.Parts.{eventsIn}
-use Rattle.followed.specs.Whole.{viewOf, wholeOf}
+use Rattle.followed.specs.Whole.{viewOf, fitOf, wholeOf}
 
 -- each number is a byte's
 abbrev pub Bytes : List ℕ → Type 0
@@ -71,7 +70,7 @@ abbrev pub WholeReading : Type 0
 WholeReading =
     (s : List ℕ) (n : ℕ) (es : List Event) (x : Checked) → Fed start Fine s es x → Bytes s
     → countOf Standard s ≡ Done n → isPadded s ≡ false
-    → ((k : ℕ) → k < n → ruleOf (kindOf (typeOf (viewOf s k))) (length (viewOf s k)) ≡ Fine)
+    → ((k : ℕ) → k < n → fitOf (viewOf s k) ≡ Fine)
     → (es ≡ wholeOf s n) × (x ≡ Fine)
 
 -- a run of 16,383 numbers and the end
