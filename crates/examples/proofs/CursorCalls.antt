@@ -5,6 +5,7 @@ use Rattle.def_refusals.specs.Answers.{answerOf, filledOf}
 use Rattle.def_wire.specs.Bytes.{pairUp}
 use Rattle.def_wire.specs.Packet.{headerOf, placeOf, walkFrom, countOf, locate}
 use Rattle.def_wire.specs.Block.{rleOf, rangedOf, kindOf, standardRule, crateRule, fitness, checkOf, fieldsOf, timeOf}
+use Rattle.def_wire.specs.Block.{has, clearRule}
 use Rattle.def_standard.specs.Chunks.{valuesIn, chunkOf, wordOf}
 use Rattle.def_standard.specs.Range.{rangeOf, offsetOf, inside, numberOf}
 use Rattle.def_standard.specs.Standard.{valuesOf, numbersFrom, pairsFrom, echoesOf}
@@ -23,7 +24,7 @@ unfolding numbered answerOf filledOf pairUp headerOf placeOf walkFrom countOf lo
     valuesOf numbersFrom pairsFrom echoesOf passes offsetSequence onesIn triesFrom crateNumbersFrom cratePairsFrom
     wordsShown numbersShown pairsShown entriesShown wordsAsked numbersAsked pairsAsked entriesAsked fieldsAsked
     timeAsked wordsBy numbersBy fieldsBy legal stepOf listedAt takenBy afterSteps listedBy stepsLeft advanceFault
-    advanceOf stretchFilled
+    advanceOf stretchFilled has clearRule
 of-a-view-hold =
     record {
       order = (refl, refl, refl, refl, refl);
@@ -46,7 +47,7 @@ unfolding numbered answerOf filledOf pairUp headerOf placeOf walkFrom countOf lo
     valuesOf numbersFrom pairsFrom echoesOf passes offsetSequence onesIn triesFrom crateNumbersFrom cratePairsFrom
     wordsShown numbersShown pairsShown entriesShown wordsAsked numbersAsked pairsAsked entriesAsked fieldsAsked
     timeAsked wordsBy numbersBy fieldsBy legal stepOf listedAt takenBy afterSteps listedBy stepsLeft advanceFault
-    advanceOf stretchFilled
+    advanceOf stretchFilled has clearRule
 of-a-packet-hold =
     record {
       moved = (record { answer = refl; filled = refl }, record { answer = refl; filled = refl });
@@ -67,7 +68,7 @@ unfolding numbered answerOf filledOf pairUp headerOf placeOf walkFrom countOf lo
     valuesOf numbersFrom pairsFrom echoesOf passes offsetSequence onesIn triesFrom crateNumbersFrom cratePairsFrom
     wordsShown numbersShown pairsShown entriesShown wordsAsked numbersAsked pairsAsked entriesAsked fieldsAsked
     timeAsked wordsBy numbersBy fieldsBy legal stepOf listedAt takenBy afterSteps listedBy stepsLeft advanceFault
-    advanceOf stretchFilled
+    advanceOf stretchFilled has clearRule
 by-number-hold =
     record {
       served = (record { answer = refl; filled = refl }, record { answer = refl; filled = refl });

@@ -1,11 +1,11 @@
 -- Packets in portions, by computation.
 use mathlib.Core.Path.{refl}
 use Rattle.def_wire.specs.Bytes.{pairUp}
-use Rattle.def_wire.specs.Block.{rleOf, rangedOf, kindOf, standardRule}
+use Rattle.def_wire.specs.Block.{rleOf, rangedOf, kindOf, standardRule, has, clearRule}
 use Rattle.def_standard.specs.Chunks.{valuesIn}
 use Rattle.def_standard.specs.Range.{rangeOf, offsetOf, inside, numberOf}
 use Rattle.def_standard.specs.Standard.{valuesOf, numbersFrom, pairsFrom, echoesOf}
-use Rattle.def_portions.specs.Events.{headFault, blockFault, kindEvents, blocksFrom, courseOf}
+use Rattle.def_portions.specs.Events.{headFault, blockFault, kindEvents, clearWords, kindThen, blocksFrom, courseOf}
 use Rattle.examples.specs.Portions.{HeadFaults, BlockFaults, BlockSoFar, SoFar}
 
 pub head-faults-hold : HeadFaults
@@ -48,7 +48,7 @@ block-so-far-hold =
 
 pub so-far-hold : SoFar
 unfolding pairUp rleOf rangedOf kindOf standardRule valuesIn rangeOf offsetOf inside numberOf valuesOf numbersFrom
-    pairsFrom echoesOf headFault blockFault kindEvents blocksFrom courseOf
+    pairsFrom echoesOf headFault blockFault kindEvents blocksFrom courseOf has clearRule clearWords kindThen
 so-far-hold =
     record {
       nothing = (refl, refl);

@@ -5,6 +5,7 @@ use Rattle.def_refusals.specs.Answers.{answerOf, filledOf}
 use Rattle.def_wire.specs.Bytes.{pairUp}
 use Rattle.def_wire.specs.Packet.{headerOf, placeOf, walkFrom, countOf, locate}
 use Rattle.def_wire.specs.Block.{rleOf, rangedOf, kindOf, standardRule, crateRule, fitness, checkOf, fieldsOf, timeOf}
+use Rattle.def_wire.specs.Block.{has, clearRule}
 use Rattle.def_standard.specs.Chunks.{valuesIn, chunkOf, wordOf}
 use Rattle.def_standard.specs.Range.{rangeOf, offsetOf, inside, numberOf}
 use Rattle.def_standard.specs.Standard.{valuesOf, numbersFrom, pairsFrom, echoesOf}
@@ -86,7 +87,7 @@ unfolding numbered answerOf filledOf pairUp headerOf placeOf walkFrom countOf lo
     pairNumbers entryNumbers takenLine wordLine blocksLine viewLine packetLine readingText dumpText lineIn numbersText
     wordsText pairsText entriesText typedReply listReply wordsReply numbersReply shownText shownReply stretchOn
     stretchIn stretchText stretchReply writtenText writtenReply chunkAsked madeText madeReply parsedText parsedReply
-    marksText marksReply viewText viewReply answerTo
+    marksText marksReply viewText viewReply answerTo has clearRule
 of-lists-hold =
     record {
       numbers = (refl, refl, refl, refl);
@@ -114,7 +115,7 @@ unfolding numbered answerOf filledOf pairUp headerOf placeOf walkFrom countOf lo
     pairNumbers entryNumbers takenLine wordLine blocksLine viewLine packetLine readingText dumpText lineIn numbersText
     wordsText pairsText entriesText typedReply listReply wordsReply numbersReply shownText shownReply stretchOn
     stretchIn stretchText stretchReply writtenText writtenReply chunkAsked madeText madeReply parsedText parsedReply
-    marksText marksReply viewText viewReply answerTo
+    marksText marksReply viewText viewReply answerTo has clearRule
 of-blocks-hold =
     record {
       fields = (refl, refl, refl, refl, refl);
@@ -138,7 +139,7 @@ unfolding numbered answerOf filledOf pairUp headerOf placeOf walkFrom countOf lo
     pairNumbers entryNumbers takenLine wordLine blocksLine viewLine packetLine readingText dumpText lineIn numbersText
     wordsText pairsText entriesText typedReply listReply wordsReply numbersReply shownText shownReply stretchOn
     stretchIn stretchText stretchReply writtenText writtenReply chunkAsked madeText madeReply parsedText parsedReply
-    marksText marksReply viewText viewReply answerTo
+    marksText marksReply viewText viewReply answerTo has clearRule
 of-stretches-hold =
     record {
       a-stretch = (refl, refl);
@@ -159,7 +160,7 @@ unfolding numbered answerOf filledOf pairUp headerOf placeOf walkFrom countOf lo
     pairNumbers entryNumbers takenLine wordLine blocksLine viewLine packetLine readingText dumpText lineIn numbersText
     wordsText pairsText entriesText typedReply listReply wordsReply numbersReply shownText shownReply stretchOn
     stretchIn stretchText stretchReply writtenText writtenReply chunkAsked madeText madeReply parsedText parsedReply
-    marksText marksReply viewText viewReply answerTo
+    marksText marksReply viewText viewReply answerTo has clearRule
 of-writing-hold =
     record {
       plain = (refl, refl);
