@@ -16,7 +16,7 @@ use Rattle.def_questions.specs.Packets.{wordsAsked, numbersAsked, pairsAsked, e
 use Rattle.def_questions.specs.ByNumber.{wordsBy, numbersBy, fieldsBy}
 use Rattle.def_cursor.specs.Cursor.{legal, stepOf, listedAt, takenBy, afterSteps, listedBy, stepsLeft, advanceFault}
 use Rattle.def_cursor.specs.Cursor.{advanceOf, stretchFilled}
-use Rattle.examples.specs.CursorCalls.{OfAView, OfAPacket, ByNumber}
+use Rattle.examples.specs.CursorCalls.{OfAView, OfAPacket, LostRun, ByNumber}
 
 pub of-a-view-hold : OfAView
 unfolding numbered answerOf filledOf pairUp headerOf placeOf walkFrom countOf locate rleOf rangedOf kindOf
@@ -28,6 +28,7 @@ unfolding numbered answerOf filledOf pairUp headerOf placeOf walkFrom countOf lo
 of-a-view-hold =
     record {
       order = (refl, refl, refl, refl, refl);
+      lost-run = (refl, refl, refl, refl, refl, refl, refl);
       all-words = (refl, refl, refl);
       moved = (refl, refl, refl, refl);
       none-taken = (refl, refl, refl);
@@ -60,6 +61,30 @@ of-a-packet-hold =
         record { answer = refl; filled = refl },
       );
       no-other = λ r out holds. (holds .answer, holds .filled);
+    }
+
+pub lost-run-hold : LostRun
+unfolding numbered answerOf filledOf pairUp headerOf placeOf walkFrom countOf locate rleOf rangedOf kindOf
+    standardRule crateRule fitness checkOf fieldsOf timeOf valuesIn chunkOf wordOf rangeOf offsetOf inside numberOf
+    valuesOf numbersFrom pairsFrom echoesOf passes offsetSequence onesIn triesFrom crateNumbersFrom cratePairsFrom
+    wordsShown numbersShown pairsShown entriesShown wordsAsked numbersAsked pairsAsked entriesAsked fieldsAsked
+    timeAsked wordsBy numbersBy fieldsBy legal stepOf listedAt takenBy afterSteps listedBy stepsLeft advanceFault
+    advanceOf stretchFilled has clearRule
+lost-run-hold =
+    record {
+      refusal = (
+        record { answer = refl; filled = refl },
+        record { answer = refl; filled = refl },
+        record { answer = refl; filled = refl },
+        record { answer = refl; filled = refl },
+        record { answer = refl; filled = refl },
+      );
+      after-ten = (
+        record { answer = refl; filled = refl },
+        record { answer = refl; filled = refl },
+        record { answer = refl; filled = refl },
+      );
+      others = record { answer = refl; filled = refl };
     }
 
 pub by-number-hold : ByNumber

@@ -57,6 +57,7 @@ blocks-hold =
       echoes = refl;
       others = (refl, refl);
       unfit = (refl, refl, refl, refl);
+      lost-run = (refl, refl, refl);
       no-time = refl;
       cut = refl;
     }
@@ -66,11 +67,12 @@ unfolding numbered pairUp headerOf placeOf walkFrom countOf rleOf rangedOf kindO
     fieldsOf timeOf valuesIn rangeOf offsetOf inside numberOf valuesOf numbersFrom pairsFrom echoesOf passes onesIn
     triesFrom crateNumbersFrom cratePairsFrom numbersShown pairsShown entriesShown decimalWithin spacedAll refusedLine
     blockLine fieldsLine timeLine listLine pairNumbers entryNumbers listOr contentsOf blockText blocksText readingText
-    dumpText
+    dumpText has clearRule
 dumps-hold =
     record {
       of-two-blocks = refl;
       of-two-blocks-by-the-crate = refl;
+      of-a-lost-run = refl;
       from-the-second = refl;
       of-no-blocks = refl;
       refused-by-the-standard = refl;

@@ -68,6 +68,7 @@ order-hold =
       never-fifteen = (refl, refl, refl, refl);
       blocks = (refl, refl, refl, refl);
       twelve-first = (refl, refl, refl);
+      twelve-of-a-lost-run = (refl, refl, refl, record { answer = refl; filled = refl });
       fourteen-first = refl;
       before-eleven = (
         record { answer = refl; filled = refl },

@@ -39,6 +39,7 @@ of-a-block-hold =
       entries = (refl, refl);
       other = (refl, refl, refl);
       refusal = (refl, refl, refl, refl, refl, refl, refl);
+      lost-run = (refl, refl);
     }
 
 pub the-same-hold : TheSame

@@ -45,13 +45,14 @@ unfolding numbered answerOf filledOf pairUp headerOf placeOf walkFrom countOf lo
     wordsShown numbersShown pairsShown entriesShown wordsAsked numbersAsked pairsAsked entriesAsked fieldsAsked
     timeAsked wordsBy numbersBy fieldsBy legal stepOf listedAt takenBy afterSteps listedBy stepsLeft advanceFault
     advanceOf stretchFilled recordOf numbersRow pairLow jobsFrom isHeaderJob isBlockJob jobsFault askedOf zerosBehind
-    blockBytes blocksBytes layoutOf misleadingFrom writeFault packetOf
+    blockBytes blocksBytes layoutOf misleadingFrom writeFault packetOf has clearRule
 misled-hold =
     record {
       in-a-reading = (refl, refl, refl, refl);
       differing = (refl, refl, refl, refl, refl);
       example-10 = (refl, refl, refl, refl);
       shown-and-refused = refl;
+      lost-run = (refl, refl);
       first-from = (refl, refl, refl, refl);
       careful-alone = (refl, refl, refl);
     }

@@ -32,6 +32,7 @@ one-call-hold =
       past = (refl, refl, refl);
       seven = refl;
       six = refl;
+      lost-run = (refl, refl, refl, refl);
       head = (refl, refl, refl);
     }
 
@@ -42,10 +43,12 @@ unfolding pairUp rleOf rangedOf kindOf standardRule valuesIn rangeOf offsetOf in
 orders-hold =
     record {
       stays = (refl, refl, refl, refl);
+      lost-run-stays = (refl, refl, refl);
       head-first = (refl, refl);
       past-first = refl;
       past-before-seven = refl;
       room-before-seven = (refl, refl);
+      before-a-lost-run = (refl, refl, refl, refl);
     }
 
 pub held-hold : Held

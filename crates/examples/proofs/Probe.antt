@@ -97,6 +97,7 @@ of-lists-hold =
       entries = (refl, refl, refl, refl, refl, refl);
       types-not-served = (refl, refl, refl, refl, refl, refl);
       words = (refl, refl, refl, refl);
+      lost-run = (refl, refl, refl, refl, refl, refl, refl);
       of-any-type = (refl, refl);
       cut-lists = (refl, refl, refl);
       cut-words = (refl, refl, refl);
@@ -119,6 +120,7 @@ unfolding numbered answerOf filledOf pairUp headerOf placeOf walkFrom countOf lo
 of-blocks-hold =
     record {
       fields = (refl, refl, refl, refl, refl);
+      fields-of-a-lost-run = (refl, refl, refl, refl, refl);
       time = (refl, refl, refl, refl, refl, refl);
       parsed = (refl, refl, refl);
       view = (refl, refl, refl, refl);
@@ -145,6 +147,7 @@ of-stretches-hold =
       a-stretch = (refl, refl);
       steps-and-numbers = refl;
       refused-stretches = (refl, refl, refl, refl, refl);
+      lost-run = (refl, refl, refl);
       cut-stretch = (refl, refl);
     }
 
@@ -165,8 +168,10 @@ of-writing-hold =
     record {
       plain = (refl, refl);
       careful = (refl, refl);
+      lost-run = (refl, refl, refl);
       a-word = (refl, refl, refl, refl);
-      no-word = (refl, refl);
+      no-word = (refl, refl, refl, refl);
+      near-a-lost-run = (refl, refl, refl);
       marks = (refl, refl, refl);
       cut-writing = (refl, refl, refl, refl);
       cut-word = (refl, refl, refl);

@@ -27,6 +27,7 @@ of-portions-hold =
       over = (refl, refl);
       again = (refl, refl);
       stays = (refl, refl);
+      lost-run = (refl, refl, refl, refl);
       room = refl;
       not-whole = (refl, refl, refl);
       line = refl;

@@ -14,7 +14,7 @@ use Rattle.def_crate.specs.Crate.{onesIn, triesFrom, crateNumbersFrom, cratePai
 use Rattle.def_questions.specs.Questions.{wordsShown, numbersShown, pairsShown, entriesShown}
 use Rattle.def_questions.specs.Packets.{wordsAsked, numbersAsked, pairsAsked, entriesAsked, fieldsAsked, timeAsked}
 use Rattle.def_questions.specs.ByNumber.{wordsBy, numbersBy, fieldsBy}
-use Rattle.examples.specs.Questions.{OfAView, OfAPacket, ByNumber, SideBySide}
+use Rattle.examples.specs.Questions.{OfAView, OfAPacket, LostRun, ByNumber, SideBySide}
 
 pub of-a-view-hold : OfAView
 unfolding numbered answerOf filledOf pairUp headerOf placeOf walkFrom countOf locate rleOf rangedOf kindOf
@@ -29,6 +29,9 @@ of-a-view-hold =
       ten = (refl, refl, refl, refl, refl);
       seven = (refl, refl, refl, refl, refl);
       seven-by-length = (refl, refl);
+      seven-by-words = (refl, refl, refl, refl, refl, refl);
+      lost-run-by-the-crate = (refl, refl, refl, refl);
+      no-word-of-times = refl;
       no-list = refl;
       pairs = (refl, refl);
       entries = (refl, refl);
@@ -55,6 +58,22 @@ of-a-packet-hold =
       seven = (refl, refl);
       from-what-follows = (refl, refl, refl, refl);
       eight-refused = (refl, refl);
+    }
+
+pub lost-run-hold : LostRun
+unfolding numbered answerOf filledOf pairUp headerOf placeOf walkFrom countOf locate rleOf rangedOf kindOf
+    standardRule crateRule fitness checkOf fieldsOf timeOf valuesIn chunkOf wordOf rangeOf offsetOf inside numberOf
+    valuesOf numbersFrom pairsFrom echoesOf passes offsetSequence onesIn triesFrom crateNumbersFrom cratePairsFrom
+    wordsShown numbersShown pairsShown entriesShown wordsAsked numbersAsked pairsAsked entriesAsked fieldsAsked
+    timeAsked wordsBy numbersBy fieldsBy has clearRule
+lost-run-hold =
+    record {
+      refusal = (refl, refl, refl, refl);
+      others = (refl, refl, refl);
+      after-ten = (refl, refl, refl);
+      before-eleven = (record { answer = refl; filled = refl }, record { answer = refl; filled = refl });
+      by-the-crate = (refl, refl, refl);
+      walked = (refl, refl);
     }
 
 pub by-number-hold : ByNumber

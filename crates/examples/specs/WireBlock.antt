@@ -150,7 +150,8 @@ pub record LostRuns : Type 0 where
       (fitness Standard (Spans (Chunks Loss)) (loss-with (0x40004001 ∷ [])) ≡ Unfit (BadBlockLength 12 16))
       × (fitness Standard (Spans (Chunks Loss)) (loss-with (0x40014001 ∷ 0x40004001 ∷ 0x40014001 ∷ []))
       ≡ Unfit (BadBlockLength 12 24))
-      × (fitness Standard (Spans (Chunks Loss)) (loss-with (0x40014001 ∷ 0x40014000 ∷ [])) ≡ Unfit (BadBlockLength 12 20))
+      × (fitness Standard (Spans (Chunks Loss)) (loss-with (0x40014001 ∷ 0x40014000 ∷ []))
+      ≡ Unfit (BadBlockLength 12 20))
       × (fitness Standard (Spans (Chunks Duplicate)) (duplicate-with (0x40000000 ∷ [])) ≡ Unfit (BadBlockLength 12 16))
       × (fitness Standard (Spans (Chunks Duplicate)) (duplicate-with (0x00004000 ∷ [])) ≡ Unfit (BadBlockLength 12 16))
   -- where the words before it have covered the range, from 10 to 11
@@ -166,7 +167,8 @@ pub record LostRuns : Type 0 where
       × (fitness Standard (Spans (Chunks Loss)) (rows (0x01400003 ∷ 7 ∷ 0x000a0040 ∷ 0x00010002 ∷ [])) ≡ Fine)
   -- L is the length of what is given, not the length field's; by length first
   pub by-length :
-      (fitness Standard (Spans (Chunks Loss)) (rows (0x01000005 ∷ 7 ∷ 0 ∷ 0x40004001 ∷ [])) ≡ Unfit (BadBlockLength 12 16))
+      (fitness Standard (Spans (Chunks Loss)) (rows (0x01000005 ∷ 7 ∷ 0 ∷ 0x40004001 ∷ []))
+      ≡ Unfit (BadBlockLength 12 16))
       × (fitness Standard (Spans (Chunks Loss)) (rows (0x01000001 ∷ 0x40004000 ∷ [])) ≡ Unfit (BadBlockLength 12 8))
   -- times, a clock and entries of 16384 are what they are
   pub other-kinds :
