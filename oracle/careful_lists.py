@@ -8,9 +8,9 @@ An edge: the first one outside a range stands at its end or a little behind it, 
 before it, there, or later; as many times as a range has positions, or nearly; few bytes behind times and entries.
 """
 from jobs import job_list
-from model_cases import CLOCK, dlrr, header, rle, times
+from model_cases import CLOCK, cleared, dlrr, header, rle, times
 from readings import Range
-from scale_lists import EDGES, FAR, damaged, largest
+from scale_lists import EDGES, FAR, LOST, damaged, largest
 from scale_lists import header as any_header
 from scale_lists import record
 
@@ -35,7 +35,8 @@ def lists(draw, count):
             yield job_list([any_header(draw, 0)] + [record(draw, 1) for _ in range(draw.randrange(29, 35))])
         else:
             padding = draw.choice((0,) * 30 + (4, 252))
-            jobs = job_list([any_header(draw, padding), *edges(draw, draw.choice((0, 1, 1, 1, 2, 2, 3, 4, 7)))])
+            found = [any_header(draw, padding), *edges(draw, draw.choice((0, 1, 1, 1, 2, 2, 3, 4, 7)))]
+            jobs = job_list(found if draw.random() < LOST else map(cleared, found))
             yield damaged(jobs, draw) if luck < .06 else jobs
 
 

@@ -2,7 +2,7 @@
 from itertools import islice
 
 from lists import entries_of, numbers_of, pairs_of
-from readings import CRATE, STANDARD, Refusal, check_length, fields_of, time_of, walk
+from readings import CRATE, STANDARD, Refusal, check_fit, fields_of, time_of, walk
 
 DUMP_PACKET = 65536     # the longest packet that the dump takes, in bytes
 DUMP_LIST = 16384       # the longest list that it shows, in items
@@ -25,7 +25,7 @@ def dump(packet):
 
 def block_lines(block):
     try:
-        check_length(block)
+        check_fit(block)
     except Refusal as refusal:
         return [f"refused {refusal.args[0]}"]
     if block.kind in (1, 2):

@@ -9,7 +9,7 @@ Checks stand in RULES' order: 12, 14, 15, 11.
 from itertools import islice
 
 from lists import entries_of, is_inside, number, numbers_of, pairs_of, standard_numbers
-from readings import CRATE, Range, Refusal, check_length, fields_of, question, refuse, time_of, walk
+from readings import CRATE, LOST_RUN, RLE, Range, Refusal, check_fit, fields_of, question, refuse, time_of, walk
 
 MOST_BLOCKS = 31
 MOST_BYTES = 262144
@@ -18,12 +18,28 @@ MOST_PADDING = 252
 
 # Reading a job list (refusal 12)
 
-def records(jobs):
+def records(jobs, lost=False):
+    """A list's records. Where `lost`, runs of ones of no length are taken, as the Rust takes them."""
     found, at = [], 0
     while at < len(jobs) or not found:
         record, at = next_record(jobs, at, len(found))
+        refuse(not lost and holds_lost(record), 12, len(found))
         found.append(record)
     return found
+
+
+def holds_lost(record):
+    """Whether a record's chunk words have a run of ones of no length."""
+    return record[0] in RLE and LOST_RUN in record[2]
+
+
+def lost_record(jobs):
+    """The index of the first record that is bad for such a run, in a list that is good but for these; else None."""
+    try:
+        found = records(jobs, lost=True)
+    except Refusal:
+        return None
+    return next((i for i, record in enumerate(found) if holds_lost(record)), None)
 
 
 def next_record(jobs, at, index):
@@ -131,7 +147,7 @@ def asked(record):
 
 def shown(block, most):
     """The same of a block in a packet, its list no further than `most` items."""
-    check_length(block)
+    check_fit(block)
     if block.kind == 4:
         return time_of(block)
     if block.kind == 5:

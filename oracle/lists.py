@@ -29,7 +29,8 @@ def values(word):
 
 @question
 def make_word(kind, value, room):
-    """kind: 0 null, 1 run of zeros, 2 run of ones, 3 vector. Two bytes."""
+    """kind: 0 null, 1 run of zeros, 2 run of ones, 3 vector. Two bytes. A run of ones has a length."""
+    refuse((kind, value) == (2, 0), 13, 0, 0)
     refuse(value > {0: value, 1: 16383, 2: 16383, 3: 32767}[kind], 13, value, 0)
     refuse(room < 2, 11, 2, room)
     word = {0: 0, 1: value, 2: 0x4000 | value, 3: 0x8000 | value}[kind]

@@ -1,6 +1,6 @@
 """Short ways to make records and packets for the model's checks, and seeded ones."""
-from jobs import job_list, layout, write
-from readings import CRATE, STANDARD, Range
+from jobs import holds_lost, job_list, layout, write
+from readings import CRATE, LOST_RUN, STANDARD, Range
 
 
 def header(padding=0):
@@ -61,6 +61,14 @@ def any_block(draw):
     if kind == 3:
         return 3, any_range(draw), [draw.getrandbits(32) for _ in range(draw.randrange(6))]
     return kind, any_range(draw), [any_word(draw) for _ in range(draw.randrange(6))]
+
+
+def cleared(record):
+    """The record with each run of ones of no length made one of length 1."""
+    if not holds_lost(record):
+        return record
+    kind, r, own = record
+    return kind, r, [LOST_RUN + 1 if word == LOST_RUN else word for word in own]
 
 
 def any_marks(draw, most):

@@ -5,11 +5,11 @@ Every check is `expect(name, found, wanted)`; one that differs is told and makes
 import random
 
 from dump import dump
-from jobs import job_list, layout, misled, records, write
+from jobs import job_list, layout, lost_record, misled, records, write
 from lists import (covers, crate_count, crate_numbers, cursor, entries, first_failure, is_inside,
                    make_word, moved, numbers, offset_sequence, pairs, values, words)
 from marks import misfit, words_from_marks
-from model_cases import (CLOCK, any_block, any_marks, any_range, any_word, both, careful, dlrr, h, header,
+from model_cases import (CLOCK, any_block, any_marks, any_range, any_word, both, careful, cleared, dlrr, h, header,
                          plain, rle, times)
 from portions import told
 from readings import CRATE, STANDARD, Range, fields, is_refused, time, view, whole
@@ -27,7 +27,8 @@ def expect(name, found, wanted):
 
 def run():
     for test in (examples, header_facts, block_facts, list_facts, cursor_facts, word_facts,
-                 job_facts, misled_facts, misled_rules, mark_facts, mark_turns, portion_facts, dump_facts):
+                 job_facts, misled_facts, misled_rules, mark_facts, mark_turns, portion_facts, dump_facts, lost_facts,
+                 lost_turns):
         test()
     print(f"{CHECKS[0]} checks, {len(FAILED)} failed")
     return 1 if FAILED else 0
@@ -169,7 +170,7 @@ def cursor_facts():
         expect("in two calls", (first[0] + rest[0], *rest[1:4], first[4] + rest[4]), all_of)
     draw = random.Random(3)
     for _ in range(300):
-        block = rle([any_word(draw) for _ in range(draw.randrange(7))], *any_range(draw)[1:])
+        block = cleared(rle([any_word(draw) for _ in range(draw.randrange(7))], *any_range(draw)[1:]))
         some = plain(block)
         steps = sum(max(1, covers(w)) for w in words(some, STANDARD, 0, 1))
         found = cursor(some, 0, 1, 0, 0, 0, steps + 1, steps + 1)
@@ -190,7 +191,9 @@ def word_facts():
            [("refused", 13, v, 0) for v in (16384, 16384, 32768)])
     expect("11", make_word(3, 32767, 1), ("refused", 11, 2, 1))
     expect("vector", make_word(3, 32767, 2), h("ffff"))
-    expect("run of ones, length 0", (make_word(2, 0, 2), make_word(1, 0, 2)), (h("4000"), h("0000")))
+    expect("length 0", [make_word(k, 0, 2) for k in (1, 2, 3)], [h("0000"), ("refused", 13, 0, 0), h("8000")])
+    expect("length 0, 13 before 11", make_word(2, 0, 1), ("refused", 13, 0, 0))
+    expect("length 1", make_word(2, 1, 2), h("4001"))
 
 
 def job_facts():
@@ -232,7 +235,7 @@ def job_facts():
     expect("15 before 11", careful(dlrr(1), CLOCK, room=0), ("refused", 15, 0, 0))
     expect("padded is never 15", careful(dlrr(1), CLOCK, padding=4), plain(dlrr(1), CLOCK, padding=4))
     expect("kind 4 is one number", plain(CLOCK)[12:], h("01020304 05060708"))
-    for word in 3, 16384, 32768:
+    for word in 3, 32768:
         expect("two zero words", len(careful(rle([word, word], 0, 9))), 8 + 12 + 8)
     for own, size in ([], 12), ([16386], 16), ([16386, 0], 16), ([0, 1], 20), ([0, 0], 16), ([1, 2, 3], 20):
         expect("careful length", view(careful(rle(own, 0, 9)), STANDARD, 0)[1], size)
@@ -266,7 +269,7 @@ def misled_rules():
     draw = random.Random(2)
     seen = set()
     for _ in range(4000):
-        blocks = [any_block(draw) for _ in range(draw.randrange(1, 4))]
+        blocks = [cleared(any_block(draw)) for _ in range(draw.randrange(1, 4))]
         found = [header(), *blocks]
         sizes = [len(layout([header(), b], True)) - 8 for b in blocks]
         short = [i for i, b in enumerate(blocks) if rule_misleads(b, sum(sizes[i + 1:]))]
@@ -392,3 +395,85 @@ def dump_facts():
     line = "block 0 type 1 length 20\nssrc 7 begin 0 end 0 thinning 0\nrefused 11\n"
     clock = f"block 1 type 4 length 12\ntime {CLOCK[1]}\n"
     expect("long list", dump(long), f"reading standard\n{line}{clock}reading crate\n{line}{clock}")
+
+
+SEVEN16, SEVEN20 = ("refused", 7, 12, 16), ("refused", 7, 12, 20)
+
+
+def lost_facts():
+    """A run of ones of no length: 7 in the standard for each question, 12 in a list, and the end of a packet's events."""
+    def asks(packet, kind):
+        return [fields(packet, STANDARD, 0, kind), words(packet, STANDARD, 0, kind), numbers(packet, STANDARD, 0, kind),
+                words(packet, STANDARD, 0, kind, 0), numbers(packet, STANDARD, 0, kind, 0),
+                cursor(packet, 0, kind, 0, 0, 0, 1, 1), cursor(packet, 0, kind, 9, 9, 9, 1, 0)]
+
+    for kind in 1, 2:
+        for own in [16384, 1], [1, 16384], [0, 16384], [16384, 0], [16384, 16384]:
+            packet = plain(rle(own, 10, 14, kind=kind), CLOCK)
+            expect(f"lost run in {own}", asks(packet, kind), [SEVEN16] * 7)
+            expect("10 before it", fields(packet, STANDARD, 0, 3 - kind), ("refused", 10, kind, 0))
+            expect("the next block", time(packet, STANDARD, 1), CLOCK[1])
+            expect("the walk and the view", (whole(packet, STANDARD), view(packet, STANDARD, 0)[:2]), ((2, 1), (8, 16)))
+            expect("the crate takes it", (fields(packet, CRATE, 0, kind), words(packet, CRATE, 0, kind)),
+                   (Range(7, 10, 14, 0), own[:1]))
+            for layout_ in False, True:
+                expect("12", write(job_list([header(), CLOCK, rle(own, 10, 14, kind=kind)]), layout_), ("refused", 12, 2, 0))
+        past = plain(rle([32767, 16385, 0, 16384], 10, 11, kind=kind))
+        expect("past the range", asks(past, kind), [SEVEN20] * 7)
+        for own in [16383, 16385], [64, 0], [32768, 49152], [0x0140, 2], [0, 0]:
+            packet = plain((kind, Range(0x40004000, 0x4000, 0x4000, 0), own))
+            expect(f"no lost run in {own}", words(packet, STANDARD, 0, kind), own)
+    expect("a word across fields and words", words(h("80cf0005 00000001 01400003 00000007 000a0040 00010002"), STANDARD, 0, 1),
+           [1, 2])
+    expect("by length first", fields(h("80cf0003 00000001 01000001 40004000"), STANDARD, 0, 1), ("refused", 7, 12, 8))
+    expect("times", pairs(plain(times([0x40004000, 16384], 5, 9)), STANDARD, 0), [(5, 0x40004000), (6, 16384)])
+    expect("times are written", plain(times([0x40004000, 16384], 5, 9)),
+           write(job_list([header(), times([0x40004000, 16384], 5, 9)]), False))
+    expect("dump", dump(plain(rle([16386, 16384], 10, 14))),
+           "reading standard\nblock 0 type 1 length 16\nrefused 7\n"
+           "reading crate\nblock 0 type 1 length 16\nssrc 7 begin 10 end 14 thinning 0\nnumbers 10 11\n")
+    lost, bad = rle([16384], 1, 2), rle([], 0, 0, 16)
+    for blocks, index in ([lost, bad], 1), ([bad, lost], 1), ([CLOCK, lost, lost], 2), ([CLOCK] * 40 + [lost], 41):
+        expect("12, the first bad record", write(job_list([header(), *blocks]), True), ("refused", 12, index, 0))
+    expect("a bad header first", write(job_list([header(2), lost]), False), ("refused", 12, 0, 0))
+    expect("12 before 15 and 11", careful(dlrr(1), CLOCK, lost, room=0), ("refused", 12, 3, 0))
+    expect("lost records", [lost_record(job_list([header(), *some])) for some in ([], [lost], [CLOCK, lost], [lost, bad])],
+           [None, 1, 2, None])
+    expect("the Rust's records", records(job_list([header(), CLOCK, lost]), lost=True), [header(), CLOCK, lost])
+    two = plain(rle([16385, 16384, 16385, 0], 10, 14), CLOCK)
+    start = "start 1 20 ssrc 7 begin 10 end 14 thinning 0"
+    expect("portions", told(9, [], two).splitlines(), ["header 40 1", start, "number 10", "refused 7 12 20"])
+    expect("portions: at the second byte", told(9, [23, 1, 0, 9], two).splitlines(),
+           ["header 40 1", start, "number 10", "taken 23 events 3"] + ["refused 7 12 20"] * 4)
+    expect("portions: 11 before it", told(2, [], two).splitlines(), ["refused 11 3 2"])
+    expect("portions: 19 before it", told(9, [], two + b"\0").splitlines(), ["refused 19 40 41"])
+    end = plain(rle([32767, 16385, 0, 16384], 10, 11))
+    expect("portions: past the range", told(9, [27, 1], end).splitlines(),
+           ["header 28 1", "start 1 20 ssrc 7 begin 10 end 11 thinning 0", "number 10", "taken 27 events 3",
+            "refused 7 12 20"])
+    expect("portions: times", told(9, [], plain(times([0x40004000], 5, 9))).splitlines()[2:],
+           ["pair 5 1073758208", "end", "taken 24 events 4"])
+
+
+def lost_turns():
+    """Seeded packets: what the standard answers of a block whose one word is made a run of no length, and of the others."""
+    draw = random.Random(5)
+    for _ in range(300):
+        blocks = [cleared(any_block(draw)) for _ in range(4)]
+        some = [i for i, block in enumerate(blocks) if block[0] in (1, 2) and block[2]]
+        if not some:
+            continue
+        packet, i = plain(*blocks), draw.choice(some)
+        kind, r, own = blocks[i]
+        at = draw.randrange(len(own))
+        spoilt = plain(*blocks[:i], (kind, r, own[:at] + [16384] + own[at + 1:]), *blocks[i + 1:])
+        place, length, _ = view(packet, STANDARD, i)
+        for index, block in enumerate(blocks):
+            if block[0] in (1, 2):
+                found = numbers(spoilt, STANDARD, index, block[0])
+                wanted = numbers(packet, STANDARD, index, block[0]) if index != i else ("refused", 7, 12, length)
+                expect("one word spoilt", found, wanted)
+        byte = place + 14 + 2 * at
+        before, after = (told(2**32, [byte - 1], some).splitlines() for some in (packet, spoilt))
+        until = next(k for k, line in enumerate(before) if line.startswith("taken ")) + 1
+        expect("events up to it", after, before[:until] + [f"refused 7 12 {length}"])

@@ -5,7 +5,8 @@ event     (byte, line): the line that xrprobe and xrfollow print, and the number
 calls     each with some bytes, in order; a call says its events' lines, then `taken ..` or `refused ..`
 """
 from lists import covers, is_inside, number, values
-from readings import STANDARD, Block, Refusal, be, check_length, has_padding, range_of, refuse
+from readings import (LOST_RUN, RLE, STANDARD, Block, Refusal, be, check_length, first_lost, has_padding, range_of,
+                      refuse, view_of)
 
 
 def check_head(packet):
@@ -31,8 +32,8 @@ def block_events(block):
         size = 4 if block.kind == 3 else 2
         for here in range(at + 12, upto - size + 1, size):
             value = be(packet, here, size)
-            if not is_inside(p, r):
-                return      # nor is any later position
+            if not is_inside(p, r) or size == 2 and value == LOST_RUN:
+                return      # nor is any later position; what is behind such a run is not told
             if block.kind == 3:
                 yield here + 4, f"pair {number(p, r)} {value}"
                 p += 1
@@ -72,6 +73,9 @@ def course(packet):
         except Refusal as refusal:
             return events, (at + 4, refusal.args)
         events += block_events(block)
+        lost = first_lost(view_of(block)) if block.kind in RLE else None
+        if lost is not None:        # at its second byte, past the range too
+            return events, (at + 12 + 2 * (lost + 1), (7, 12, length))
         at += length
     if at == stop and at <= len(packet):
         events.append((stop, "end"))

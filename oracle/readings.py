@@ -13,6 +13,7 @@ from functools import wraps
 
 STANDARD, CRATE = 0, 1
 RLE, RANGED = (1, 2), (1, 2, 3)     # types that are asked for numbers and words, for fields
+LOST_RUN = 16384                    # the chunk word of a run of ones of no length
 
 Block = namedtuple("Block", "reading packet at length kind left")
 Range = namedtuple("Range", "ssrc begin end thinning")
@@ -93,11 +94,25 @@ def find(packet, reading, index):
 
 
 def find_as(packet, reading, index, kind, served):
-    """The block as one of the asked type, which the question serves, its length rule kept."""
+    """The block as one of the asked type, which the question serves, and fit to be read."""
     block = find(packet, reading, index)
     refuse(block.kind != kind or kind not in served, 10, block.kind, 0)
-    check_length(block)
+    check_fit(block)
     return block
+
+
+def check_fit(block):
+    """The block's length rule; in the standard then its words: no run of ones of no length, wherever it stands."""
+    check_length(block)
+    if block.reading == STANDARD and block.kind in RLE:
+        refuse(first_lost(view_of(block)) is not None, 7, 12, block.length)
+
+
+def first_lost(view):
+    """The index of the first chunk word that is a run of ones of no length, or None; of a block's bytes, or so many
+    of them as have come."""
+    words = zip(view[12::2], view[13::2])
+    return next((i for i, word in enumerate(words) if word == divmod(LOST_RUN, 256)), None)
 
 
 def check_length(block):

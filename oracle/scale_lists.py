@@ -4,16 +4,18 @@ lists(draw, count)                 job lists
 written(jobs, text, draw, seen)    (request, wanted, who says so), for the oracle's text about a list (src/write.rs)
 
 Without padding the bytes wanted are the Rust's own text, and so is the length that 14 and 11 speak of. The Rust knows no
-limit of blocks or bytes, and cannot be asked for padding or for a bad record: there the model answers.
+limit of blocks or bytes, and cannot be asked for padding or for a bad record: there the model answers. It writes a run of
+ones of no length, which is 12 with the index of its record.
 """
-from jobs import MOST_BLOCKS, MOST_BYTES, job_list, records
-from model_cases import CLOCK, any_word
+from jobs import MOST_BLOCKS, MOST_BYTES, job_list, lost_record, records
+from model_cases import CLOCK, any_word, cleared
 from probe import PLAIN, answer, request
 from readings import Range, Refusal
 
 FAR = 2**32 - 1
 BODIES = (0, 1, 5, 6, 7, 8, 9, 10, 11, 12, 13, 14, 24, 36)      # bodies of any bytes, in damaged lists
 EDGES = (0, 1, 255, 256, 32767, 32768, 65534, 65535)
+LOST = .1       # of the lists, which may have runs of ones of no length as they come
 
 
 def lists(draw, count):
@@ -27,7 +29,7 @@ def lists(draw, count):
             most = draw.choice((2, 6, 6, 12, 12, 200))
             found = [header(draw, draw.choice((0,) * 12 + (4, 8, 128, 252)))]
             found += [record(draw, most) for _ in range(draw.choice((0, 1, 1, 2, 3, 6)))]
-            jobs = job_list(found)
+            jobs = job_list(found if draw.random() < LOST else map(cleared, found))
             yield damaged(jobs, draw) if luck < .18 else jobs
 
 
@@ -94,7 +96,11 @@ def damaged(jobs, draw):
 
 def written(jobs, text, draw, seen):
     size = None
-    if text.startswith("packet ") and is_plain(jobs):
+    lost = lost_record(jobs)
+    if text.startswith("packet ") and lost is not None:
+        wanted, who = f"refused 12 {lost} 0\n", "the Rust"
+        seen["lists with a run of no length"] += 1
+    elif text.startswith("packet ") and is_plain(jobs):
         wanted, who = text, "the Rust"
         size, blocks = (len(text) - len("packet \n")) // 2, len(records(jobs)) - 1
         if blocks > MOST_BLOCKS:

@@ -4,7 +4,7 @@ number cursor, chunk words, the dump. standard(packet, draw) gives requests.
 from lists import covers, entries_of, numbers_of, pairs_of, words_of
 from probe import (CURSOR, DUMP, FIELDS, LENT, LIST, NUMBERS, PARSE, TYPES, VIEW, WORD, WORDS, asked,
                    request)
-from readings import STANDARD, Refusal, check_length, walk
+from readings import STANDARD, Refusal, check_fit, walk
 
 SOME = 6        # blocks of one packet that are asked
 FAR = 2**32 - 1
@@ -54,7 +54,7 @@ def own_type(packet, i, block, draw):
     if kind in TYPES[FIELDS]:
         yield request(FIELDS, STANDARD, i, kind, packet=packet)
     try:
-        check_length(block)
+        check_fit(block)
     except Refusal:
         for ask in LIST, WORDS, CURSOR:
             if kind in TYPES[ask]:

@@ -4,6 +4,7 @@ use Rattle.def_refusals.specs.Numbers.{numbered}
 use Rattle.def_wire.specs.Bytes.{pairUp}
 use Rattle.def_wire.specs.Packet.{headerOf, placeOf, walkFrom, countOf}
 use Rattle.def_wire.specs.Block.{rleOf, rangedOf, kindOf, standardRule, crateRule, fitness, checkOf, fieldsOf, timeOf}
+use Rattle.def_wire.specs.Block.{has, clearRule}
 use Rattle.def_standard.specs.Chunks.{valuesIn}
 use Rattle.def_standard.specs.Range.{rangeOf, offsetOf, inside, numberOf}
 use Rattle.def_standard.specs.Standard.{valuesOf, numbersFrom, pairsFrom, echoesOf}
@@ -39,14 +40,14 @@ pub sample-holds : Sample
 unfolding numbered pairUp headerOf placeOf walkFrom countOf rleOf rangedOf kindOf standardRule crateRule fitness checkOf
     fieldsOf timeOf valuesIn rangeOf offsetOf inside numberOf valuesOf numbersFrom passes onesIn triesFrom
     crateNumbersFrom numbersShown decimalWithin spacedAll refusedLine blockLine fieldsLine listLine listOr contentsOf
-    blockText blocksText readingText dumpText
+    blockText blocksText readingText dumpText has clearRule
 sample-holds = record { sample = refl }
 
 pub blocks-hold : Blocks
 unfolding numbered pairUp headerOf placeOf walkFrom countOf rleOf rangedOf kindOf standardRule crateRule fitness checkOf
     fieldsOf timeOf valuesIn rangeOf offsetOf inside numberOf valuesOf numbersFrom pairsFrom echoesOf passes onesIn
     triesFrom crateNumbersFrom cratePairsFrom numbersShown pairsShown entriesShown decimalWithin spacedAll refusedLine
-    blockLine fieldsLine timeLine listLine pairNumbers entryNumbers listOr contentsOf blockText
+    blockLine fieldsLine timeLine listLine pairNumbers entryNumbers listOr contentsOf blockText has clearRule
 blocks-hold =
     record {
       duplicates = refl;
@@ -56,6 +57,7 @@ blocks-hold =
       echoes = refl;
       others = (refl, refl);
       unfit = (refl, refl, refl, refl);
+      lost-run = (refl, refl, refl);
       no-time = refl;
       cut = refl;
     }
@@ -65,11 +67,12 @@ unfolding numbered pairUp headerOf placeOf walkFrom countOf rleOf rangedOf kindO
     fieldsOf timeOf valuesIn rangeOf offsetOf inside numberOf valuesOf numbersFrom pairsFrom echoesOf passes onesIn
     triesFrom crateNumbersFrom cratePairsFrom numbersShown pairsShown entriesShown decimalWithin spacedAll refusedLine
     blockLine fieldsLine timeLine listLine pairNumbers entryNumbers listOr contentsOf blockText blocksText readingText
-    dumpText
+    dumpText has clearRule
 dumps-hold =
     record {
       of-two-blocks = refl;
       of-two-blocks-by-the-crate = refl;
+      of-a-lost-run = refl;
       from-the-second = refl;
       of-no-blocks = refl;
       refused-by-the-standard = refl;

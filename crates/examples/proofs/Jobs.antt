@@ -5,6 +5,7 @@ use Rattle.def_refusals.specs.Answers.{answerOf, filledOf}
 use Rattle.def_wire.specs.Bytes.{pairUp}
 use Rattle.def_wire.specs.Packet.{headerOf, placeOf, walkFrom, countOf, locate}
 use Rattle.def_wire.specs.Block.{rleOf, rangedOf, kindOf, standardRule, crateRule, fitness, checkOf, fieldsOf, timeOf}
+use Rattle.def_wire.specs.Block.{has}
 use Rattle.def_standard.specs.Chunks.{valuesIn, chunkOf, wordOf}
 use Rattle.def_standard.specs.Range.{rangeOf, offsetOf, inside, numberOf}
 use Rattle.def_standard.specs.Standard.{valuesOf, numbersFrom, pairsFrom, echoesOf}
@@ -81,7 +82,7 @@ unfolding numbered answerOf filledOf pairUp headerOf placeOf walkFrom countOf lo
     wordsShown numbersShown pairsShown entriesShown wordsAsked numbersAsked pairsAsked entriesAsked fieldsAsked
     timeAsked wordsBy numbersBy fieldsBy legal stepOf listedAt takenBy afterSteps listedBy stepsLeft advanceFault
     advanceOf stretchFilled recordOf numbersRow pairLow jobsFrom isHeaderJob isBlockJob jobsFault askedOf zerosBehind
-    blockBytes blocksBytes layoutOf misleadingFrom writeFault packetOf
+    blockBytes blocksBytes layoutOf misleadingFrom writeFault packetOf has
 block-records-hold =
     record {
       parts = refl;
@@ -91,6 +92,8 @@ block-records-hold =
       entries = refl;
       others = (refl, refl, refl);
       thinning = (refl, refl, refl);
+      lost-run = (refl, refl, refl, refl);
+      lost-run-elsewhere = (refl, refl, refl);
       places = (refl, refl, refl, refl, refl);
     }
 
@@ -101,7 +104,7 @@ unfolding numbered answerOf filledOf pairUp headerOf placeOf walkFrom countOf lo
     wordsShown numbersShown pairsShown entriesShown wordsAsked numbersAsked pairsAsked entriesAsked fieldsAsked
     timeAsked wordsBy numbersBy fieldsBy legal stepOf listedAt takenBy afterSteps listedBy stepsLeft advanceFault
     advanceOf stretchFilled recordOf numbersRow pairLow jobsFrom isHeaderJob isBlockJob jobsFault askedOf zerosBehind
-    blockBytes blocksBytes layoutOf misleadingFrom writeFault packetOf
+    blockBytes blocksBytes layoutOf misleadingFrom writeFault packetOf has
 twelve-hold =
     record {
       none = (refl, refl);
@@ -109,6 +112,7 @@ twelve-hold =
       second-header = (refl, refl);
       trailing = (refl, refl);
       first = (refl, refl);
+      lost-run = (refl, refl, refl, refl, refl, refl, refl);
       from-here = (refl, refl);
     }
 

@@ -1,17 +1,19 @@
 -- JobsLargest: not computed, since 262,144 bytes take long, but by the lengths of what is laid out.
 use Prim.Native.Nat.{ℕ, zero, suc, _+_}
 use mathlib.Core.Path.{_≡_, refl, _∙_, ap}
+use mathlib.Core.Bool.{true, false}
 use mathlib.Core.List.{List, [], _∷_, _++_}
 use lib.ListN.{length, length-append, getD}
 use native.Mathlib.Omega.{arith}
-use Rattle.def_refusals.specs.declared.Refusal.the-variants.{TooMany}
+use Rattle.def_refusals.specs.declared.Refusal.the-variants.{TooMany, BadRecord}
 use Rattle.def_refusals.specs.declared.Checked.the-variants.{Fine, Unfit}
 use Rattle.def_wire.specs.Bytes.{two}
-use Rattle.def_wire.specs.Block.{rleOf, rangedOf, kindOf}
+use Rattle.def_wire.specs.Block.{rleOf, rangedOf, kindOf, lostRun, has}
 use Rattle.def_jobs.specs.declared.Layout.the-variants.{Plain, Careful}
 use Rattle.def_jobs.specs.Jobs.{jobsFault, pairLow, isHeaderJob, isBlockJob}
 use Rattle.def_jobs.specs.Layout.{bytesOf, zerosBehind, blockBytes, blocksBytes, layoutOf}
-use Rattle.examples.specs.JobsLargest.{ones, one-block, Words131062}
+use Rattle.def_jobs.specs.Writing.{writeFault}
+use Rattle.examples.specs.JobsLargest.{ones, one-block, lost-behind, Words131062}
 use Rattle.examples.proofs.JobsSize.{of-any-list-hold}
 
 -- the body's bytes, the words that they are, and the last of these
@@ -30,6 +32,21 @@ unfolding ones pairLow
 last-word zero = refl
 last-word (suc n) = last-word n
 
+-- none of them is a run of no length; one that stands behind them is
+clear-words : (n : ℕ) → has lostRun (pairLow 256 (ones n)) ≡ false
+unfolding ones pairLow has
+clear-words zero = refl
+clear-words (suc n) = clear-words n
+
+lost-words : (n : ℕ) → has lostRun (pairLow 256 (ones n ++ (0 ∷ 64 ∷ []))) ≡ true
+unfolding ones pairLow has
+lost-words zero = refl
+lost-words (suc n) = lost-words n
+
+length-lost : (n : ℕ) → length (ones n ++ (0 ∷ 64 ∷ [])) ≡ n + n + 2
+length-lost n =
+    let h : length (ones n) ≡ n + n = length-ones n in length-append (ones n) (0 ∷ 64 ∷ []) ∙ omega (arith, h)
+
 -- the bytes of n words, of what stands behind them, and of no further block and no padding
 length-laid : (ws zs : List ℕ) (n : ℕ) → length ws ≡ n → length (bytesOf two ws ++ zs ++ [] ++ []) ≡ n + n + length zs
 length-laid [] zs n e = length-append (zs ++ []) [] ∙ (rw (length-append zs []) (omega (arith, e)))
@@ -38,14 +55,24 @@ length-laid (w ∷ ws) zs n e =
     let h : length (bytesOf two ws ++ zs ++ [] ++ []) ≡ m + m + length zs = length-laid ws zs m refl in
     omega (arith, h, e)
 
--- the records are good: fields, and whole words
+-- the records are good: fields, and whole words; or not
 good-131062 : jobsFault 0 (one-block 131062) ≡ Fine
 unfolding rleOf rangedOf kindOf isHeaderJob isBlockJob jobsFault
-good-131062 = let e : length (ones 131062) ≡ 262124 = length-ones 131062 in rw e
+good-131062 = let e : length (ones 131062) ≡ 262124 = length-ones 131062 in rw (e, clear-words 131062)
 
 good-131063 : jobsFault 0 (one-block 131063) ≡ Fine
 unfolding rleOf rangedOf kindOf isHeaderJob isBlockJob jobsFault
-good-131063 = let e : length (ones 131063) ≡ 262126 = length-ones 131063 in rw e
+good-131063 = let e : length (ones 131063) ≡ 262126 = length-ones 131063 in rw (e, clear-words 131063)
+
+bad-131061 : jobsFault 0 (lost-behind 131061) ≡ Unfit (BadRecord 1)
+unfolding rleOf rangedOf kindOf isHeaderJob isBlockJob jobsFault
+bad-131061 =
+    let e : length (ones 131061 ++ (0 ∷ 64 ∷ [])) ≡ 262124 = length-lost 131061 in rw (e, lost-words 131061)
+
+bad-131062 : jobsFault 0 (lost-behind 131062) ≡ Unfit (BadRecord 1)
+unfolding rleOf rangedOf kindOf isHeaderJob isBlockJob jobsFault
+bad-131062 =
+    let e : length (ones 131062 ++ (0 ∷ 64 ∷ [])) ≡ 262126 = length-lost 131062 in rw (e, lost-words 131062)
 
 -- the packets' lengths
 plain-131062 : length (layoutOf Plain (one-block 131062)) ≡ 262144
@@ -68,6 +95,7 @@ careful-131062 =
     rw (e, l, length-laid (pairLow 256 (ones 131062)) (0 ∷ 0 ∷ 0 ∷ 0 ∷ []) 131062 e)
 
 pub words131062-hold : Words131062
+unfolding writeFault
 words131062-hold =
     record {
       plain = of-any-list-hold .plain-within (one-block 131062) good-131062 refl (rw plain-131062);
@@ -77,4 +105,5 @@ words131062-hold =
       one-more =
           of-any-list-hold .over Plain (one-block 131063) good-131063 refl (rw plain-131063)
           ∙ ap (λ n. Unfit (TooMany n 262144)) plain-131063;
+      lost-run = (rw bad-131061, rw bad-131061, rw bad-131062);
     }

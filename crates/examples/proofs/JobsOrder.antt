@@ -5,6 +5,7 @@ use Rattle.def_refusals.specs.Answers.{answerOf, filledOf}
 use Rattle.def_wire.specs.Bytes.{pairUp}
 use Rattle.def_wire.specs.Packet.{headerOf, placeOf, walkFrom, countOf, locate}
 use Rattle.def_wire.specs.Block.{rleOf, rangedOf, kindOf, standardRule, crateRule, fitness, checkOf, fieldsOf, timeOf}
+use Rattle.def_wire.specs.Block.{has, clearRule}
 use Rattle.def_standard.specs.Chunks.{valuesIn, chunkOf, wordOf}
 use Rattle.def_standard.specs.Range.{rangeOf, offsetOf, inside, numberOf}
 use Rattle.def_standard.specs.Standard.{valuesOf, numbersFrom, pairsFrom, echoesOf}
@@ -59,7 +60,7 @@ unfolding numbered answerOf filledOf pairUp headerOf placeOf walkFrom countOf lo
     wordsShown numbersShown pairsShown entriesShown wordsAsked numbersAsked pairsAsked entriesAsked fieldsAsked
     timeAsked wordsBy numbersBy fieldsBy legal stepOf listedAt takenBy afterSteps listedBy stepsLeft advanceFault
     advanceOf stretchFilled recordOf numbersRow pairLow jobsFrom isHeaderJob isBlockJob jobsFault askedOf zerosBehind
-    blockBytes blocksBytes layoutOf misleadingFrom writeFault packetOf
+    blockBytes blocksBytes layoutOf misleadingFrom writeFault packetOf has clearRule
 order-hold =
     record {
       first-misleading = refl;
@@ -67,6 +68,7 @@ order-hold =
       never-fifteen = (refl, refl, refl, refl);
       blocks = (refl, refl, refl, refl);
       twelve-first = (refl, refl, refl);
+      twelve-of-a-lost-run = (refl, refl, refl, record { answer = refl; filled = refl });
       fourteen-first = refl;
       before-eleven = (
         record { answer = refl; filled = refl },

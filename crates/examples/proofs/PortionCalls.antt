@@ -1,11 +1,11 @@
 -- Calls of packets in portions, by computation.
 use mathlib.Core.Path.{refl}
 use Rattle.def_wire.specs.Bytes.{pairUp}
-use Rattle.def_wire.specs.Block.{rleOf, rangedOf, kindOf, standardRule}
+use Rattle.def_wire.specs.Block.{rleOf, rangedOf, kindOf, standardRule, has, clearRule}
 use Rattle.def_standard.specs.Chunks.{valuesIn}
 use Rattle.def_standard.specs.Range.{rangeOf, offsetOf, inside, numberOf}
 use Rattle.def_standard.specs.Standard.{valuesOf, numbersFrom, pairsFrom, echoesOf}
-use Rattle.def_portions.specs.Events.{headFault, blockFault, kindEvents, blocksFrom, courseOf}
+use Rattle.def_portions.specs.Events.{headFault, blockFault, kindEvents, clearWords, kindThen, blocksFrom, courseOf}
 use Rattle.def_portions.specs.Calls.{pastFault, callOf}
 use Rattle.def_portions.specs.Lists.{tagOf, numberPart, valuePart, laid}
 use Rattle.examples.specs.PortionCalls.{Past, OneCall, Orders, Held}
@@ -23,7 +23,7 @@ past-hold =
 pub one-call-hold : OneCall
 unfolding pairUp rleOf rangedOf kindOf standardRule valuesIn rangeOf offsetOf inside numberOf valuesOf numbersFrom
     pairsFrom echoesOf headFault blockFault kindEvents blocksFrom courseOf pastFault callOf tagOf numberPart valuePart
-    laid
+    laid has clearRule clearWords kindThen
 one-call-hold =
     record {
       adds = (refl, refl, refl);
@@ -32,20 +32,23 @@ one-call-hold =
       past = (refl, refl, refl);
       seven = refl;
       six = refl;
+      lost-run = (refl, refl, refl, refl);
       head = (refl, refl, refl);
     }
 
 pub orders-hold : Orders
 unfolding pairUp rleOf rangedOf kindOf standardRule valuesIn rangeOf offsetOf inside numberOf valuesOf numbersFrom
     pairsFrom echoesOf headFault blockFault kindEvents blocksFrom courseOf pastFault callOf tagOf numberPart valuePart
-    laid
+    laid has clearRule clearWords kindThen
 orders-hold =
     record {
       stays = (refl, refl, refl, refl);
+      lost-run-stays = (refl, refl, refl);
       head-first = (refl, refl);
       past-first = refl;
       past-before-seven = refl;
       room-before-seven = (refl, refl);
+      before-a-lost-run = (refl, refl, refl, refl);
     }
 
 pub held-hold : Held

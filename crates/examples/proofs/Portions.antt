@@ -1,12 +1,12 @@
 -- Packets in portions, by computation.
 use mathlib.Core.Path.{refl}
 use Rattle.def_wire.specs.Bytes.{pairUp}
-use Rattle.def_wire.specs.Block.{rleOf, rangedOf, kindOf, standardRule}
+use Rattle.def_wire.specs.Block.{rleOf, rangedOf, kindOf, standardRule, has, clearRule}
 use Rattle.def_standard.specs.Chunks.{valuesIn}
 use Rattle.def_standard.specs.Range.{rangeOf, offsetOf, inside, numberOf}
 use Rattle.def_standard.specs.Standard.{valuesOf, numbersFrom, pairsFrom, echoesOf}
-use Rattle.def_portions.specs.Events.{headFault, blockFault, kindEvents, blocksFrom, courseOf}
-use Rattle.examples.specs.Portions.{HeadFaults, BlockFaults, BlockSoFar, SoFar}
+use Rattle.def_portions.specs.Events.{headFault, blockFault, kindEvents, clearWords, kindThen, blocksFrom, courseOf}
+use Rattle.examples.specs.Portions.{HeadFaults, BlockFaults, BlockSoFar, SoFar, LostRuns, LostSoFar}
 
 pub head-faults-hold : HeadFaults
 unfolding pairUp rleOf rangedOf kindOf standardRule valuesIn rangeOf offsetOf inside numberOf valuesOf numbersFrom
@@ -48,7 +48,7 @@ block-so-far-hold =
 
 pub so-far-hold : SoFar
 unfolding pairUp rleOf rangedOf kindOf standardRule valuesIn rangeOf offsetOf inside numberOf valuesOf numbersFrom
-    pairsFrom echoesOf headFault blockFault kindEvents blocksFrom courseOf
+    pairsFrom echoesOf headFault blockFault kindEvents blocksFrom courseOf has clearRule clearWords kindThen
 so-far-hold =
     record {
       nothing = (refl, refl);
@@ -62,4 +62,29 @@ so-far-hold =
       no-fuel = refl;
       seven = (refl, refl, refl);
       six = (refl, refl);
+    }
+
+pub lost-runs-hold : LostRuns
+unfolding pairUp rleOf rangedOf kindOf standardRule valuesIn rangeOf offsetOf inside numberOf valuesOf numbersFrom
+    pairsFrom echoesOf headFault blockFault kindEvents blocksFrom courseOf has clearRule clearWords kindThen
+lost-runs-hold =
+    record {
+      words = refl;
+      bytes-before = (refl, refl, refl, refl, refl);
+      all-bytes = (refl, refl, refl, refl);
+      fault = (refl, refl, refl, refl, refl);
+      no-fault = (refl, refl, refl, refl);
+      behind = (refl, refl, refl, refl);
+    }
+
+pub lost-so-far-hold : LostSoFar
+unfolding pairUp rleOf rangedOf kindOf standardRule valuesIn rangeOf offsetOf inside numberOf valuesOf numbersFrom
+    pairsFrom echoesOf headFault blockFault kindEvents blocksFrom courseOf has clearRule clearWords kindThen
+lost-so-far-hold =
+    record {
+      second-byte = (refl, refl, refl, refl, refl, refl, refl);
+      past-the-range = (refl, refl);
+      first-word = (refl, refl);
+      by-length = refl;
+      goes-on = (refl, refl, refl, refl, refl);
     }

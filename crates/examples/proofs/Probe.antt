@@ -5,6 +5,7 @@ use Rattle.def_refusals.specs.Answers.{answerOf, filledOf}
 use Rattle.def_wire.specs.Bytes.{pairUp}
 use Rattle.def_wire.specs.Packet.{headerOf, placeOf, walkFrom, countOf, locate}
 use Rattle.def_wire.specs.Block.{rleOf, rangedOf, kindOf, standardRule, crateRule, fitness, checkOf, fieldsOf, timeOf}
+use Rattle.def_wire.specs.Block.{has, clearRule}
 use Rattle.def_standard.specs.Chunks.{valuesIn, chunkOf, wordOf}
 use Rattle.def_standard.specs.Range.{rangeOf, offsetOf, inside, numberOf}
 use Rattle.def_standard.specs.Standard.{valuesOf, numbersFrom, pairsFrom, echoesOf}
@@ -86,7 +87,7 @@ unfolding numbered answerOf filledOf pairUp headerOf placeOf walkFrom countOf lo
     pairNumbers entryNumbers takenLine wordLine blocksLine viewLine packetLine readingText dumpText lineIn numbersText
     wordsText pairsText entriesText typedReply listReply wordsReply numbersReply shownText shownReply stretchOn
     stretchIn stretchText stretchReply writtenText writtenReply chunkAsked madeText madeReply parsedText parsedReply
-    marksText marksReply viewText viewReply answerTo
+    marksText marksReply viewText viewReply answerTo has clearRule
 of-lists-hold =
     record {
       numbers = (refl, refl, refl, refl);
@@ -96,6 +97,7 @@ of-lists-hold =
       entries = (refl, refl, refl, refl, refl, refl);
       types-not-served = (refl, refl, refl, refl, refl, refl);
       words = (refl, refl, refl, refl);
+      lost-run = (refl, refl, refl, refl, refl, refl, refl);
       of-any-type = (refl, refl);
       cut-lists = (refl, refl, refl);
       cut-words = (refl, refl, refl);
@@ -114,10 +116,11 @@ unfolding numbered answerOf filledOf pairUp headerOf placeOf walkFrom countOf lo
     pairNumbers entryNumbers takenLine wordLine blocksLine viewLine packetLine readingText dumpText lineIn numbersText
     wordsText pairsText entriesText typedReply listReply wordsReply numbersReply shownText shownReply stretchOn
     stretchIn stretchText stretchReply writtenText writtenReply chunkAsked madeText madeReply parsedText parsedReply
-    marksText marksReply viewText viewReply answerTo
+    marksText marksReply viewText viewReply answerTo has clearRule
 of-blocks-hold =
     record {
       fields = (refl, refl, refl, refl, refl);
+      fields-of-a-lost-run = (refl, refl, refl, refl, refl);
       time = (refl, refl, refl, refl, refl, refl);
       parsed = (refl, refl, refl);
       view = (refl, refl, refl, refl);
@@ -138,12 +141,13 @@ unfolding numbered answerOf filledOf pairUp headerOf placeOf walkFrom countOf lo
     pairNumbers entryNumbers takenLine wordLine blocksLine viewLine packetLine readingText dumpText lineIn numbersText
     wordsText pairsText entriesText typedReply listReply wordsReply numbersReply shownText shownReply stretchOn
     stretchIn stretchText stretchReply writtenText writtenReply chunkAsked madeText madeReply parsedText parsedReply
-    marksText marksReply viewText viewReply answerTo
+    marksText marksReply viewText viewReply answerTo has clearRule
 of-stretches-hold =
     record {
       a-stretch = (refl, refl);
       steps-and-numbers = refl;
       refused-stretches = (refl, refl, refl, refl, refl);
+      lost-run = (refl, refl, refl);
       cut-stretch = (refl, refl);
     }
 
@@ -159,13 +163,15 @@ unfolding numbered answerOf filledOf pairUp headerOf placeOf walkFrom countOf lo
     pairNumbers entryNumbers takenLine wordLine blocksLine viewLine packetLine readingText dumpText lineIn numbersText
     wordsText pairsText entriesText typedReply listReply wordsReply numbersReply shownText shownReply stretchOn
     stretchIn stretchText stretchReply writtenText writtenReply chunkAsked madeText madeReply parsedText parsedReply
-    marksText marksReply viewText viewReply answerTo
+    marksText marksReply viewText viewReply answerTo has clearRule
 of-writing-hold =
     record {
       plain = (refl, refl);
       careful = (refl, refl);
+      lost-run = (refl, refl, refl);
       a-word = (refl, refl, refl, refl);
-      no-word = (refl, refl);
+      no-word = (refl, refl, refl, refl);
+      near-a-lost-run = (refl, refl, refl);
       marks = (refl, refl, refl);
       cut-writing = (refl, refl, refl, refl);
       cut-word = (refl, refl, refl);

@@ -5,6 +5,7 @@ use Rattle.def_refusals.specs.Answers.{answerOf, filledOf}
 use Rattle.def_wire.specs.Bytes.{pairUp}
 use Rattle.def_wire.specs.Packet.{headerOf, placeOf, walkFrom, countOf, locate}
 use Rattle.def_wire.specs.Block.{rleOf, rangedOf, kindOf, standardRule, crateRule, fitness, checkOf, fieldsOf, timeOf}
+use Rattle.def_wire.specs.Block.{has, clearRule}
 use Rattle.def_standard.specs.Chunks.{valuesIn, chunkOf, wordOf}
 use Rattle.def_standard.specs.Range.{rangeOf, offsetOf, inside, numberOf}
 use Rattle.def_standard.specs.Standard.{valuesOf, numbersFrom, pairsFrom, echoesOf}
@@ -13,14 +14,14 @@ use Rattle.def_crate.specs.Crate.{onesIn, triesFrom, crateNumbersFrom, cratePai
 use Rattle.def_questions.specs.Questions.{wordsShown, numbersShown, pairsShown, entriesShown}
 use Rattle.def_questions.specs.Packets.{wordsAsked, numbersAsked, pairsAsked, entriesAsked, fieldsAsked, timeAsked}
 use Rattle.def_questions.specs.ByNumber.{wordsBy, numbersBy, fieldsBy}
-use Rattle.examples.specs.Questions.{OfAView, OfAPacket, ByNumber, SideBySide}
+use Rattle.examples.specs.Questions.{OfAView, OfAPacket, LostRun, ByNumber, SideBySide}
 
 pub of-a-view-hold : OfAView
 unfolding numbered answerOf filledOf pairUp headerOf placeOf walkFrom countOf locate rleOf rangedOf kindOf
     standardRule crateRule fitness checkOf fieldsOf timeOf valuesIn chunkOf wordOf rangeOf offsetOf inside numberOf
     valuesOf numbersFrom pairsFrom echoesOf passes offsetSequence onesIn triesFrom crateNumbersFrom cratePairsFrom
     wordsShown numbersShown pairsShown entriesShown wordsAsked numbersAsked pairsAsked entriesAsked fieldsAsked
-    timeAsked wordsBy numbersBy fieldsBy
+    timeAsked wordsBy numbersBy fieldsBy has clearRule
 of-a-view-hold =
     record {
       words = (refl, refl, refl, refl);
@@ -28,6 +29,9 @@ of-a-view-hold =
       ten = (refl, refl, refl, refl, refl);
       seven = (refl, refl, refl, refl, refl);
       seven-by-length = (refl, refl);
+      seven-by-words = (refl, refl, refl, refl, refl, refl);
+      lost-run-by-the-crate = (refl, refl, refl, refl);
+      no-word-of-times = refl;
       no-list = refl;
       pairs = (refl, refl);
       entries = (refl, refl);
@@ -39,7 +43,7 @@ unfolding numbered answerOf filledOf pairUp headerOf placeOf walkFrom countOf lo
     standardRule crateRule fitness checkOf fieldsOf timeOf valuesIn chunkOf wordOf rangeOf offsetOf inside numberOf
     valuesOf numbersFrom pairsFrom echoesOf passes offsetSequence onesIn triesFrom crateNumbersFrom cratePairsFrom
     wordsShown numbersShown pairsShown entriesShown wordsAsked numbersAsked pairsAsked entriesAsked fieldsAsked
-    timeAsked wordsBy numbersBy fieldsBy
+    timeAsked wordsBy numbersBy fieldsBy has clearRule
 of-a-packet-hold =
     record {
       words = (refl, refl);
@@ -56,12 +60,28 @@ of-a-packet-hold =
       eight-refused = (refl, refl);
     }
 
+pub lost-run-hold : LostRun
+unfolding numbered answerOf filledOf pairUp headerOf placeOf walkFrom countOf locate rleOf rangedOf kindOf
+    standardRule crateRule fitness checkOf fieldsOf timeOf valuesIn chunkOf wordOf rangeOf offsetOf inside numberOf
+    valuesOf numbersFrom pairsFrom echoesOf passes offsetSequence onesIn triesFrom crateNumbersFrom cratePairsFrom
+    wordsShown numbersShown pairsShown entriesShown wordsAsked numbersAsked pairsAsked entriesAsked fieldsAsked
+    timeAsked wordsBy numbersBy fieldsBy has clearRule
+lost-run-hold =
+    record {
+      refusal = (refl, refl, refl, refl);
+      others = (refl, refl, refl);
+      after-ten = (refl, refl, refl);
+      before-eleven = (record { answer = refl; filled = refl }, record { answer = refl; filled = refl });
+      by-the-crate = (refl, refl, refl);
+      walked = (refl, refl);
+    }
+
 pub by-number-hold : ByNumber
 unfolding numbered answerOf filledOf pairUp headerOf placeOf walkFrom countOf locate rleOf rangedOf kindOf
     standardRule crateRule fitness checkOf fieldsOf timeOf valuesIn chunkOf wordOf rangeOf offsetOf inside numberOf
     valuesOf numbersFrom pairsFrom echoesOf passes offsetSequence onesIn triesFrom crateNumbersFrom cratePairsFrom
     wordsShown numbersShown pairsShown entriesShown wordsAsked numbersAsked pairsAsked entriesAsked fieldsAsked
-    timeAsked wordsBy numbersBy fieldsBy
+    timeAsked wordsBy numbersBy fieldsBy has clearRule
 by-number-hold =
     record {
       served = (refl, refl, refl, refl, refl);

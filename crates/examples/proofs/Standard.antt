@@ -25,8 +25,11 @@ chunk-words-hold =
       chunk = refl;
       made = refl;
       thirteen = (refl, refl, refl, refl);
-      bytes = (refl, refl);
+      lost-run = refl;
+      bytes = (refl, refl, refl, refl, refl);
       into-a-buffer = (
+        record { answer = refl; filled = refl },
+        record { answer = refl; filled = refl },
         record { answer = refl; filled = refl },
         record { answer = refl; filled = refl },
         record { answer = refl; filled = refl },

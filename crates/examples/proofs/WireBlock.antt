@@ -5,7 +5,8 @@ use Rattle.def_refusals.specs.Answers.{answerOf, filledOf}
 use Rattle.def_wire.specs.Bytes.{pairUp}
 use Rattle.def_wire.specs.Packet.{headerOf, placeOf, walkFrom, countOf, locate}
 use Rattle.def_wire.specs.Block.{rleOf, rangedOf, kindOf, standardRule, crateRule, fitness, checkOf, fieldsOf, timeOf}
-use Rattle.examples.specs.WireBlock.{Kinds, Parts, LengthRules, Checks, Fields}
+use Rattle.def_wire.specs.Block.{has, clearRule}
+use Rattle.examples.specs.WireBlock.{Kinds, Parts, LengthRules, LostRuns, Checks, Fields}
 
 pub kinds-hold : Kinds
 unfolding numbered answerOf filledOf pairUp headerOf placeOf walkFrom countOf locate rleOf rangedOf kindOf
@@ -48,9 +49,31 @@ length-rules-hold =
       of-a-view = (refl, refl, refl, refl);
     }
 
+pub lost-runs-hold : LostRuns
+unfolding numbered answerOf filledOf pairUp headerOf placeOf walkFrom countOf locate rleOf rangedOf kindOf
+    standardRule crateRule fitness checkOf fieldsOf timeOf has clearRule
+lost-runs-hold =
+    record {
+      the-word = refl;
+      words = (refl, refl, refl, refl);
+      among = (refl, refl, refl, refl, refl, refl, refl);
+      of-words = (refl, refl, refl, refl);
+      other-words = refl;
+      of-kinds = (refl, refl, refl, refl, refl);
+      refusal = (refl, refl, refl, refl, refl);
+      past-the-range = refl;
+      not-a-word = (refl, refl, refl, refl, refl);
+      by-length = (refl, refl);
+      other-kinds = (refl, refl, refl);
+      other-rules = (refl, refl, refl);
+      by-the-crate = (refl, refl);
+      checked = (refl, refl, refl, refl, refl);
+      no-fields = (refl, refl, refl);
+    }
+
 pub checks-hold : Checks
 unfolding numbered answerOf filledOf pairUp headerOf placeOf walkFrom countOf locate rleOf rangedOf kindOf
-    standardRule crateRule fitness checkOf fieldsOf timeOf
+    standardRule crateRule fitness checkOf fieldsOf timeOf has clearRule
 checks-hold =
     record {
       ten-first = (refl, refl, refl, refl, refl, refl);
@@ -61,7 +84,7 @@ checks-hold =
 
 pub fields-hold : Fields
 unfolding numbered answerOf filledOf pairUp headerOf placeOf walkFrom countOf locate rleOf rangedOf kindOf
-    standardRule crateRule fitness checkOf fieldsOf timeOf
+    standardRule crateRule fitness checkOf fieldsOf timeOf has clearRule
 fields-hold =
     record {
       of-loss = (refl, refl);

@@ -25,6 +25,10 @@ a-duplicate = rows (0x02010003 ∷ 7 ∷ 0x000a000f ∷ 0x40024002 ∷ [])
 abbrev pub short-loss : List ℕ
 short-loss = rows (0x01000001 ∷ 7 ∷ [])
 
+-- words 16386, 0, 2 and a run of ones of no length
+abbrev pub lost-loss : List ℕ
+lost-loss = rows (0x01000004 ∷ 7 ∷ 0x000a000f ∷ 0x40020000 ∷ 0x00024000 ∷ [])
+
 abbrev pub old : List ℕ
 old = 1 ∷ 2 ∷ 3 ∷ 4 ∷ 5 ∷ 6 ∷ 7 ∷ []
 
@@ -36,6 +40,15 @@ pub record OfAView : Type 0 where
       × (advanceFault Loss a-loss (place 9 9 9) 3 2 ≡ Unfit NoPlace)
       × (advanceFault Loss a-loss start 3 2 ≡ Unfit (NoRoom 3 2))
       × (advanceFault Loss a-loss start 3 3 ≡ Fine)
+  -- 7 by a run of no length: behind 10, before 16 and 11, for a budget of 0 and at the end too
+  pub lost-run :
+      (advanceFault Duplicate lost-loss (place 9 9 9) 3 2 ≡ Unfit (OtherType 1))
+      × (advanceFault Loss lost-loss (place 9 9 9) 3 2 ≡ Unfit (BadBlockLength 12 20))
+      × (advanceFault Loss lost-loss start 3 2 ≡ Unfit (BadBlockLength 12 20))
+      × (advanceFault Loss lost-loss start 0 0 ≡ Unfit (BadBlockLength 12 20))
+      × (advanceOf Loss lost-loss start 1 7 ≡ Stuck (BadBlockLength 12 20))
+      × (advanceOf Loss lost-loss (place 4 0 5) 1 7 ≡ Stuck (BadBlockLength 12 20))
+      × (stretchFilled Loss lost-loss start 2 old ≡ old)
   -- the last word counts: the end is behind word 3
   pub all-words :
       (advanceFault Loss a-loss (place 4 0 0) 0 0 ≡ Fine) × (advanceFault Loss a-loss (place 3 0 0) 0 0 ≡ Fine)
@@ -94,6 +107,26 @@ pub record OfAPacket : Type 0 where
   pub no-other :
       (r : Advanced) (out : List ℕ) → StretchedIn four-blocks 1 Loss (place 0 1 1) 2 (8 ∷ 9 ∷ []) r out
       → (r ≡ Moved (stretch 2 0 2 2 1)) × (out ≡ 11 ∷ 9 ∷ [])
+
+-- an empty block of type 9, then a block with a run of no length, then one without
+abbrev pub lost-second : List ℕ
+lost-second =
+    packet
+    (0x09000000 ∷ 0x02000003 ∷ 7 ∷ 0x000a000f ∷ 0x40024000 ∷ 0x02010003 ∷ 7 ∷ 0x000a000f ∷ 0x40024002 ∷ [])
+
+pub record LostRun : Type 0 where
+  pub refusal :
+      StretchedIn lost-second 1 Duplicate start 1 old (Stuck (BadBlockLength 12 16)) old
+      × StretchedIn lost-second 1 Duplicate (place 9 9 9) 9 old (Stuck (BadBlockLength 12 16)) old
+      × StretchedIn lost-second 1 Duplicate start 9 old (Stuck (BadBlockLength 12 16)) old
+      × StretchedBy lost-second 1 2 start 1 old (Stuck (BadBlockLength 12 16)) old
+      × StretchedBy lost-second 1 2 start 9 [] (Stuck (BadBlockLength 12 16)) []
+  pub after-ten :
+      StretchedIn lost-second 1 Loss start 1 old (Stuck (OtherType 2)) old
+      × StretchedBy lost-second 1 1 start 1 old (Stuck (OtherType 2)) old
+      × StretchedBy lost-second 1 9 start 1 old (Stuck (OtherType 2)) old
+  pub others :
+      StretchedIn lost-second 2 Duplicate start 7 old (Moved (stretch 2 0 4 4 3)) (10 ∷ 12 ∷ 14 ∷ 4 ∷ 5 ∷ 6 ∷ 7 ∷ [])
 
 -- the asked type by a number: 1 and 2 are served; any other is 10 with the block's own type, after 9 and before 7
 pub record ByNumber : Type 0 where

@@ -84,6 +84,14 @@ pub record Blocks : Type 0 where
       × (blockText Standard 0 (rows (0x03000001 ∷ 7 ∷ [])) ≡ textOf ("block 0 type 3 length 8" ∷ "refused 7" ∷ []))
       × (blockText Standard 0 (rows (0x04000001 ∷ 7 ∷ [])) ≡ textOf ("block 0 type 4 length 8" ∷ "refused 7" ∷ []))
       × (blockText Standard 0 (rows (0x05000001 ∷ 7 ∷ [])) ≡ textOf ("block 0 type 5 length 8" ∷ "refused 7" ∷ []))
+  -- by a run of no length too, in the standard; the crate shows the block
+  pub lost-run :
+      (blockText Standard 0 (rows (0x01000003 ∷ 7 ∷ 0x000a000e ∷ 0x40024000 ∷ []))
+      ≡ textOf ("block 0 type 1 length 16" ∷ "refused 7" ∷ []))
+      × (blockText Standard 3 (rows (0x02000004 ∷ 7 ∷ 0x000a000e ∷ 0x40004001 ∷ 0 ∷ []))
+      ≡ textOf ("block 3 type 2 length 20" ∷ "refused 7" ∷ []))
+      × (blockText Crate 3 (rows (0x02000004 ∷ 7 ∷ 0x000a000e ∷ 0x40004001 ∷ 0 ∷ []))
+      ≡ textOf ("block 3 type 2 length 20" ∷ "ssrc 7 begin 10 end 14 thinning 0" ∷ "numbers 10" ∷ []))
   -- a time that is refused
   pub no-time : timeOr (timeOf Standard (rows (0x04000001 ∷ 7 ∷ []))) ≡ textOf ("refused 7" ∷ [])
   -- `refused 8` in place of the fields' line alone, and then the empty list
@@ -110,6 +118,20 @@ pub record Dumps : Type 0 where
       ∷ "pairs 5 100 6 67108866 7 1 8 2"
       ∷ "block 1 type 4 length 12"
       ∷ "time 4294967298"
+      ∷ [])
+  -- a run of no length, and a block behind it
+  pub of-a-lost-run :
+      dumpText (packet (0x01000003 ∷ 7 ∷ 0x000a000e ∷ 0x40024000 ∷ 0x63000000 ∷ []))
+      ≡ textOf
+      ("reading standard"
+      ∷ "block 0 type 1 length 16"
+      ∷ "refused 7"
+      ∷ "block 1 type 99 length 4"
+      ∷ "reading crate"
+      ∷ "block 0 type 1 length 16"
+      ∷ "ssrc 7 begin 10 end 14 thinning 0"
+      ∷ "numbers 10 11"
+      ∷ "block 1 type 99 length 4"
       ∷ [])
   -- from block 1 on
   pub from-the-second :

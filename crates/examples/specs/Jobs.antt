@@ -2,7 +2,7 @@
 -- RULES, "Job lists and writing".
 use Prim.Native.Nat.{ℕ}
 use mathlib.Core.Path.{_≡_}
-use mathlib.Core.Bool.{true, false}
+use mathlib.Core.Bool.{Bool, true, false}
 use mathlib.Core.List.{List, [], _∷_, _++_, map}
 use lib.ListN.{take, replicate}
 use Rattle.def_refusals.specs.declared.Refusal.the-variants.{BadRecord}
@@ -13,7 +13,7 @@ use Rattle.def_jobs.specs.Shown.{reported, received, clocked, echoed, bare}
 use Rattle.def_jobs.specs.Jobs.{le16, le32, le64, pairLow, low16, low32, Job, headerKind, cutJob, isWhole, jobAt}
 use Rattle.def_jobs.specs.Jobs.{jobsFrom, jobsOf, senderOf, askedPadding, isHeaderJob, jobFields, isBlockJob, isGood}
 use Rattle.def_jobs.specs.Jobs.{jobsFault, jobWords, jobTimes, askedOf}
-use Rattle.examples.specs.Rows.{fields, le2, le4, le4s, job, header, body, report, receipts, clock, echoes}
+use Rattle.examples.specs.Rows.{fields, le2, le4, le2s, le4s, job, header, body, report, receipts, clock, echoes}
 use Rattle.examples.specs.Standard.{echo, pair}
 
 abbrev pub nine-bytes : List ℕ
@@ -88,6 +88,15 @@ fits k n = jobsFault 1 (of-kind k (replicate n 0) ∷ [])
 abbrev pub bad : Checked
 bad = Unfit (BadRecord 1)
 
+-- whether a record of a kind with these words is good
+abbrev pub with-words : ℕ → List ℕ → Bool
+with-words k ws = isBlockJob (of-kind k (body 0 0 0 (le2s ws)))
+
+abbrev pub lost-lists : List (List ℕ)
+lost-lists =
+    (16384 ∷ []) ∷ (16384 ∷ 1 ∷ []) ∷ (1 ∷ 2 ∷ 16384 ∷ []) ∷ (1 ∷ 16384 ∷ 2 ∷ [])
+    ∷ (16383 ∷ 16385 ∷ 64 ∷ 32768 ∷ 49152 ∷ 0 ∷ []) ∷ (1 ∷ 0x0240 ∷ 0x0001 ∷ 0x0040 ∷ []) ∷ []
+
 pub record BlockRecords : Type 0 where
   -- SSRC, begin, end, thinning
   pub parts :
@@ -113,6 +122,18 @@ pub record BlockRecords : Type 0 where
       (map (λ t. isBlockJob (of-kind 1 (body 0 0 t []))) (0 ∷ 15 ∷ 16 ∷ 256 ∷ []) ≡ true ∷ true ∷ false ∷ false ∷ [])
       × (map (λ t. isBlockJob (of-kind 2 (body 0 0 t []))) (15 ∷ 16 ∷ []) ≡ true ∷ false ∷ [])
       × (map (λ t. isBlockJob (of-kind 3 (body 0 0 t []))) (15 ∷ 16 ∷ []) ≡ true ∷ false ∷ [])
+  -- kinds 1 and 2: a run of ones of no length alone, first, last and between; its neighbours, its bytes exchanged,
+  -- with the top bit too, and nothing; its bytes across two words; in the fields
+  pub lost-run :
+      (map (with-words 1) lost-lists ≡ false ∷ false ∷ false ∷ false ∷ true ∷ true ∷ [])
+      × (map (with-words 2) lost-lists ≡ false ∷ false ∷ false ∷ false ∷ true ∷ true ∷ [])
+      × (isBlockJob (of-kind 1 (body 16384 16384 0 (le2s (16385 ∷ [])))) ≡ true)
+      × (isBlockJob (of-kind 2 (le4 0x40004000 ++ (le2 0 ++ (le2 0 ++ le2 0)))) ≡ true)
+  -- other records may have it: a time whose half it is, or that is two of it, a clock, entries
+  pub lost-run-elsewhere :
+      (isBlockJob (of-kind 3 (body 0 9 0 (le4s (16384 ∷ 0x40000000 ∷ 0x40004000 ∷ [])))) ≡ true)
+      × (isBlockJob (of-kind 4 (le4s (0x40004000 ∷ 0x40004000 ∷ []))) ≡ true)
+      × (isBlockJob (of-kind 5 (le4s (1 ∷ 2 ∷ 0x40004000 ∷ 0x40004000 ∷ 16384 ∷ 16384 ∷ []))) ≡ true)
   -- index 0 is the header record's place, and every other a block's
   pub places :
       (isGood 0 (sender-and 0) ≡ true) × (isGood 1 (sender-and 0) ≡ false) × (isGood 0 (of-kind 5 []) ≡ false)
@@ -143,6 +164,16 @@ pub record Twelve : Type 0 where
   pub first :
       (fault (header 0 ++ (clock 1 2 ++ (job 6 [] ++ (job 7 [] ++ clock 1 2)))) ≡ at-record 2)
       × (fault (job 6 [] ++ job 7 []) ≡ at-record 0)
+  -- a run of ones of no length: its record's index, behind an earlier bad record and before a later one
+  pub lost-run :
+      (fault (header 0 ++ report 1 10 14 0 (16386 ∷ 16384 ∷ [])) ≡ at-record 1)
+      × (fault (header 0 ++ (clock 1 2 ++ report 2 10 14 0 (16384 ∷ []))) ≡ at-record 2)
+      × (fault (header 0 ++ (job 6 [] ++ report 1 10 14 0 (16384 ∷ []))) ≡ at-record 1)
+      × (fault (header 0 ++ (report 1 10 14 0 (16384 ∷ []) ++ job 6 [])) ≡ at-record 1)
+      × (fault (header 0 ++ (report 1 1 4 0 (1 ∷ []) ++ (report 1 1 4 0 (16384 ∷ []) ++ report 1 1 4 0 (16384 ∷ []))))
+      ≡ at-record 2)
+      × (fault (header 2 ++ report 1 10 14 0 (16384 ∷ [])) ≡ at-record 0)
+      × (fault (header 0 ++ (report 1 10 14 0 (16385 ∷ []) ++ receipts 5 9 0 (16384 ∷ []))) ≡ Fine)
   -- records from an index on
   pub from-here : (jobsFault 5 [] ≡ Fine) × (jobsFault 5 (of-kind 5 [] ∷ of-kind 6 [] ∷ []) ≡ Unfit (BadRecord 6))
 

@@ -96,6 +96,13 @@ pub record Order : Type 0 where
       (packetOf Plain (header 0 ++ (times 32 four-bytes ++ (0 ∷ []))) ≡ refused (BadRecord 33))
       × (packetOf Careful (header 0 ++ (an-echo ++ (a-clock ++ job 6 []))) ≡ refused (BadRecord 3))
       × (packetOf Careful [] ≡ refused (BadRecord 0))
+  -- also of a run of ones of no length: before 14, before 15, before 11
+  pub twelve-of-a-lost-run :
+      (packetOf Plain (header 0 ++ (times 32 four-bytes ++ report 1 10 14 0 (16384 ∷ []))) ≡ refused (BadRecord 33))
+      × (packetOf Careful (header 0 ++ (an-echo ++ (a-clock ++ report 2 10 14 0 (16386 ∷ 16384 ∷ []))))
+      ≡ refused (BadRecord 3))
+      × (packetOf Careful (header 0 ++ report 1 10 12 0 (16384 ∷ 16386 ∷ 16385 ∷ [])) ≡ refused (BadRecord 1))
+      × Listed (packetOf Plain (header 0 ++ report 1 10 14 0 (16384 ∷ []))) [] (Refused (BadRecord 1)) []
   -- 14 before 15
   pub fourteen-first : packetOf Careful (header 0 ++ (an-echo ++ times 31 four-bytes)) ≡ refused (TooMany 32 31)
   -- 12, 14 and 15 before 11, found without the lent buffer

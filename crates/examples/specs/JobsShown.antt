@@ -51,6 +51,11 @@ pub record OfABlock : Type 0 where
       × (recordOf Standard (rows (0x04000000 ∷ [])) ≡ refused (BadBlockLength 12 4))
       × (recordOf Standard (rows (0x05000001 ∷ 7 ∷ [])) ≡ refused (BadBlockLength 16 8))
       × (recordOf Crate (rows (0x05000001 ∷ 7 ∷ [])) ≡ refused (BadBlockLength 16 8))
+  -- a run of no length: 7 in the standard, and the crate shows the rest
+  pub lost-run :
+      (recordOf Standard (rows (0x01000003 ∷ 7 ∷ 0x000a000f ∷ 0x40024000 ∷ [])) ≡ refused (BadBlockLength 12 16))
+      × (recordOf Crate (rows (0x01000003 ∷ 7 ∷ 0x000a000f ∷ 0x40024000 ∷ []))
+      ≡ shown (reported Loss (fields 7 10 15 0) (10 ∷ 11 ∷ [])))
 
 abbrev pub a-loss : Record
 a-loss = reported Loss (fields 7 10 15 1) (10 ∷ 12 ∷ [])

@@ -30,6 +30,10 @@ pub record Fourteen : Type 0 where
   -- the blocks are tested first
   pub blocks-first : sizeFault 32 262148 ≡ Unfit (TooMany 32 31)
 
+-- a list of one type 1 block written carefully
+abbrev pub one-loss : ℕ → ℕ → ℕ → List ℕ → Or (List ℕ)
+one-loss b e t ws = packetOf Careful (header 0 ++ report 1 b e t ws)
+
 pub record Misled : Type 0 where
   -- what block k shows in each reading: example 10, and no block 2
   pub in-a-reading :
@@ -47,6 +51,10 @@ pub record Misled : Type 0 where
       × (misleads turned10 1 ≡ false)
   -- the standard refuses a type 4 block of 16 bytes, and the crate shows it
   pub shown-and-refused : misleads (packet (0x04000003 ∷ 1 ∷ 2 ∷ 3 ∷ [])) 0 ≡ true
+  -- and a type 1 block with a run of no length: no list asks for one, since that is 12
+  pub lost-run :
+      (misleads (packet (0x01000003 ∷ 7 ∷ 0x000a000e ∷ 0x40014000 ∷ [])) 0 ≡ true)
+      × (one-loss 10 14 0 (16385 ∷ 16384 ∷ []) ≡ refused (BadRecord 1))
   -- the first of n blocks from k on: none asked, none misleading, the first of two
   pub first-from :
       (misleadingFrom packet10 0 0 ≡ Fine) × (misleadingFrom packet10 0 2 ≡ Unfit (Misleads 0))
@@ -56,10 +64,6 @@ pub record Misled : Type 0 where
   pub careful-alone :
       (misleadFault Plain packet10 2 ≡ Fine) × (misleadFault Careful packet10 2 ≡ Unfit (Misleads 0))
       × (misleadFault Careful packet10 0 ≡ Fine)
-
--- a list of one type 1 block written carefully
-abbrev pub one-loss : ℕ → ℕ → ℕ → List ℕ → Or (List ℕ)
-one-loss b e t ws = packetOf Careful (header 0 ++ report 1 b e t ws)
 
 -- 15, of types 1 and 2: the first one-valued position outside the range passes the crate's test
 pub record FifteenOfReports : Type 0 where

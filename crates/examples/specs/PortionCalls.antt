@@ -13,7 +13,7 @@ use Rattle.def_portions.specs.declared.Event.the-variants.{Header, Start, Range
 use Rattle.def_portions.specs.Calls.{Call, callOf, pastFault}
 use Rattle.def_portions.specs.Lists.{keeps, puts, tagOf, numberPart, valuePart, tagPart, laid}
 use Rattle.examples.specs.Rows.{rows, packet, fields}
-use Rattle.examples.specs.Portions.{pair, entry, time, mixed, bad-rule, bad-length}
+use Rattle.examples.specs.Portions.{pair, entry, time, mixed, bad-rule, bad-length, lost, lost-events}
 
 abbrev pub call : List Event → Checked → List ℕ → Call
 call es x b = record { events = es; refusal = x; taken = b }
@@ -60,6 +60,13 @@ pub record OneCall : Type 0 where
   -- 6 and 7 list what came before, and take all of the call's bytes
   pub seven : callOf [] bad-rule 2 ≡ call (Header 32 1 ∷ Start 99 4 ∷ []) (Unfit (BadBlockLength 12 16)) bad-rule
   pub six : callOf (take 12 bad-length) (drop 12 bad-length) 0 ≡ call [] (Unfit (BlockTooLong 12 8)) bad-length
+  -- 7 by a run of no length: at the word's second byte, not at its first
+  pub lost-run :
+      (callOf [] lost 3 ≡ call lost-events (Unfit (BadBlockLength 12 20)) lost)
+      × (callOf (take 20 lost) (take 3 (drop 20 lost)) 1 ≡ call (Number 10 ∷ []) Fine (take 23 lost))
+      × (callOf (take 20 lost) (take 4 (drop 20 lost)) 1
+      ≡ call (Number 10 ∷ []) (Unfit (BadBlockLength 12 20)) (take 24 lost))
+      × (callOf (take 23 lost) (take 1 (drop 23 lost)) 0 ≡ call [] (Unfit (BadBlockLength 12 20)) (take 24 lost))
   -- 1, 2, 3 and 18 take the bytes too
   pub head :
       (callOf [] short 0 ≡ call [] (Unfit (TooShort 8 4)) short)
@@ -73,6 +80,10 @@ pub record Orders : Type 0 where
       × (callOf version1 (rows (1 ∷ 2 ∷ [])) 0 ≡ call [] (Unfit WrongVersion) version1)
       × (callOf (take 16 bad-rule) (drop 16 bad-rule) 9 ≡ call [] (Unfit (BadBlockLength 12 16)) (take 16 bad-rule))
       × (callOf bad-rule (1 ∷ []) 9 ≡ call [] (Unfit (BadBlockLength 12 16)) bad-rule)
+  pub lost-run-stays :
+      (callOf (take 24 lost) [] 0 ≡ call [] (Unfit (BadBlockLength 12 20)) (take 24 lost))
+      × (callOf (take 24 lost) (drop 24 lost) 9 ≡ call [] (Unfit (BadBlockLength 12 20)) (take 24 lost))
+      × (callOf lost (1 ∷ 2 ∷ []) 9 ≡ call [] (Unfit (BadBlockLength 12 20)) lost)
   -- 1, 2, 3 and 18 before 19: here 8 bytes are announced and 9 are given
   pub head-first :
       (callOf [] (version1 ++ rows (1 ∷ []) ++ 0 ∷ []) 0
@@ -86,6 +97,12 @@ pub record Orders : Type 0 where
   pub room-before-seven :
       (callOf [] bad-rule 1 ≡ call [] (Unfit (NoRoom 2 1)) [])
       × (callOf [] bad-length 1 ≡ call [] (Unfit (NoRoom 2 1)) [])
+  -- 19 and 11 before a run of no length, by the events before it; then with room
+  pub before-a-lost-run :
+      (callOf [] (lost ++ 0 ∷ []) 9 ≡ call [] (Unfit (PastEnd 32 33)) [])
+      × (callOf [] lost 2 ≡ call [] (Unfit (NoRoom 3 2)) [])
+      × (callOf (take 20 lost) (drop 20 lost) 0 ≡ call [] (Unfit (NoRoom 1 0)) (take 20 lost))
+      × (callOf (take 20 lost) (drop 20 lost) 1 ≡ call (Number 10 ∷ []) (Unfit (BadBlockLength 12 20)) lost)
 
 -- how each event is held
 pub record Held : Type 0 where

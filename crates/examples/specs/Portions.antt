@@ -2,17 +2,23 @@
 -- RULES, "Packets in portions".
 use Prim.Native.Nat.{ℕ}
 use mathlib.Core.Path.{_≡_}
-use mathlib.Core.List.{List, [], _∷_, _++_}
+use mathlib.Core.List.{List, [], _∷_, _++_, map}
 use lib.ListN.{take}
 use Rattle.def_refusals.specs.declared.Refusal.the-variants.{TooShort, WrongVersion, WrongPacketType, Padded}
 use Rattle.def_refusals.specs.declared.Refusal.the-variants.{BlockTooLong, BadBlockLength}
 use Rattle.def_refusals.specs.declared.Checked.the-variants.{Fine, Unfit}
+use Rattle.def_wire.specs.declared.Rle.the-variants.{Loss, Duplicate}
+use Rattle.def_wire.specs.declared.Ranged.the-variants.{Chunks, Times}
+use Rattle.def_wire.specs.declared.Kind.the-variants.{Spans, Clock, Echoes}
+use Rattle.def_wire.specs.declared.KindOr.{KindOr}
+use Rattle.def_wire.specs.declared.KindOr.the-variants.{AKind, NoKind}
 use Rattle.def_standard.specs.declared.Receipt.{Receipt}
 use Rattle.def_standard.specs.declared.Echo.{Echo}
 use Rattle.def_portions.specs.declared.Event.{Event}
 use Rattle.def_portions.specs.declared.Event.the-variants.{Header, Start, Ranged as RangedStart, Number, Pair}
 use Rattle.def_portions.specs.declared.Event.the-variants.{Entry, Time, End}
 use Rattle.def_portions.specs.Events.{headFault, blockFault, blockEvents, blocksFrom, courseOf, course, quiet}
+use Rattle.def_portions.specs.Events.{clearWords, clearPart, lostFault, blockThen}
 use Rattle.examples.specs.Rows.{rows, packet, padded, fields}
 
 -- a number and its time; whose echo, last, delay; a clock time
@@ -186,3 +192,108 @@ pub record SoFar : Type 0 where
   pub six :
       (courseOf (take 15 bad-length) ≡ course (Header 20 1 ∷ Start 99 4 ∷ []) Fine)
       × (courseOf (take 16 bad-length) ≡ course (Header 20 1 ∷ Start 99 4 ∷ []) (Unfit (BlockTooLong 12 8)))
+
+-- types 1 and 2 with a run of ones of no length: the second word of four, and the first of two; a type 3 block whose
+-- times have its bytes
+abbrev pub lost-loss : List ℕ
+lost-loss = rows (0x01000004 ∷ 7 ∷ 0x000a000e ∷ 0x40014000 ∷ 0x40010000 ∷ [])
+
+abbrev pub lost-duplicate : List ℕ
+lost-duplicate = rows (0x02000003 ∷ 7 ∷ 0x000a000e ∷ 0x40004001 ∷ [])
+
+abbrev pub lost-times : List ℕ
+lost-times = rows (0x03000004 ∷ 7 ∷ 0x00050009 ∷ 0x40004000 ∷ 16384 ∷ [])
+
+abbrev pub a-loss-kind : KindOr
+a-loss-kind = AKind (Spans (Chunks Loss))
+
+-- a block and a run of no length
+pub record LostRuns : Type 0 where
+  -- the words before the first one; all, where there is none
+  pub words :
+      map clearWords
+      ([] ∷ (16384 ∷ []) ∷ (16384 ∷ 1 ∷ []) ∷ (1 ∷ 2 ∷ 16384 ∷ 3 ∷ 16384 ∷ []) ∷ (1 ∷ 2 ∷ [])
+      ∷ (16383 ∷ 16385 ∷ 64 ∷ 32768 ∷ 49152 ∷ 0 ∷ []) ∷ [])
+      ≡ 0 ∷ 0 ∷ 0 ∷ 2 ∷ 2 ∷ 6 ∷ []
+  -- the bytes before it: of types 1 and 2; what is no word stays, and half a word is none
+  pub bytes-before :
+      (clearPart a-loss-kind lost-loss ≡ take 14 lost-loss)
+      × (clearPart (AKind (Spans (Chunks Duplicate))) lost-duplicate ≡ take 12 lost-duplicate)
+      × (clearPart a-loss-kind (take 11 lost-loss) ≡ take 11 lost-loss)
+      × (clearPart a-loss-kind (take 15 lost-loss) ≡ take 14 lost-loss)
+      × (clearPart a-loss-kind loss ≡ loss)
+  pub all-bytes :
+      (clearPart (AKind (Spans Times)) lost-times ≡ lost-times) × (clearPart (AKind Clock) lost-loss ≡ lost-loss)
+      × (clearPart (AKind Echoes) lost-loss ≡ lost-loss) × (clearPart NoKind lost-loss ≡ lost-loss)
+  -- 7 with 12 and L, once its second byte has come
+  pub fault :
+      (lostFault a-loss-kind lost-loss ≡ Unfit (BadBlockLength 12 20))
+      × (lostFault a-loss-kind (take 16 lost-loss) ≡ Unfit (BadBlockLength 12 20))
+      × (lostFault a-loss-kind (take 15 lost-loss) ≡ Fine)
+      × (lostFault (AKind (Spans (Chunks Duplicate))) (take 14 lost-duplicate) ≡ Unfit (BadBlockLength 12 16))
+      × (lostFault a-loss-kind loss ≡ Fine)
+  pub no-fault :
+      (lostFault (AKind (Spans Times)) lost-times ≡ Fine) × (lostFault (AKind Clock) lost-loss ≡ Fine)
+      × (lostFault (AKind Echoes) lost-loss ≡ Fine) × (lostFault NoKind lost-loss ≡ Fine)
+  -- a block, and what comes behind it: nothing, where it ends there
+  pub behind :
+      (blockThen loss (course (End ∷ []) Fine) ≡ course (loss-start ∷ Number 10 ∷ Number 12 ∷ End ∷ []) Fine)
+      × (blockThen loss (course [] (Unfit WrongVersion))
+      ≡ course (loss-start ∷ Number 10 ∷ Number 12 ∷ []) (Unfit WrongVersion))
+      × (blockThen lost-duplicate (course (End ∷ []) Fine)
+      ≡ course (RangedStart 2 16 (fields 7 10 14 0) ∷ []) (Unfit (BadBlockLength 12 16)))
+      × (blockThen lost-loss (course (End ∷ []) (Unfit WrongVersion))
+      ≡ course (RangedStart 1 20 (fields 7 10 14 0) ∷ Number 10 ∷ []) (Unfit (BadBlockLength 12 20)))
+
+-- the packet of the first, and a block behind it
+abbrev pub lost : List ℕ
+lost = packet (0x01000004 ∷ 7 ∷ 0x000a000e ∷ 0x40014000 ∷ 0x40010000 ∷ 0x63000000 ∷ [])
+
+abbrev pub lost-events : List Event
+lost-events = Header 32 1 ∷ RangedStart 1 20 (fields 7 10 14 0) ∷ Number 10 ∷ []
+
+-- a good block, then one from 10 to 11 whose last word is such a run, past the range
+abbrev pub lost-last : List ℕ
+lost-last =
+    packet
+    (0x01000003 ∷ 7 ∷ 0x000a000e ∷ 0x40018000 ∷ 0x02000004 ∷ 8 ∷ 0x000a000b ∷ 0x40034003 ∷ 0x00034000 ∷ [])
+
+abbrev pub lost-last-events : List Event
+lost-last-events =
+    Header 44 1 ∷ RangedStart 1 16 (fields 7 10 14 0) ∷ Number 10 ∷ RangedStart 2 20 (fields 8 10 11 0) ∷ Number 10 ∷ []
+
+pub record LostSoFar : Type 0 where
+  -- at the word's second byte: the numbers before it are told, those behind it and the block behind it are not
+  pub second-byte :
+      (courseOf (take 22 lost) ≡ course lost-events Fine) × (courseOf (take 23 lost) ≡ course lost-events Fine)
+      × (courseOf (take 24 lost) ≡ course lost-events (Unfit (BadBlockLength 12 20)))
+      × (courseOf (take 25 lost) ≡ course lost-events (Unfit (BadBlockLength 12 20)))
+      × (courseOf (take 26 lost) ≡ course lost-events (Unfit (BadBlockLength 12 20)))
+      × (courseOf (take 28 lost) ≡ course lost-events (Unfit (BadBlockLength 12 20)))
+      × (courseOf lost ≡ course lost-events (Unfit (BadBlockLength 12 20)))
+  -- the packet's last word, past the range: no end
+  pub past-the-range :
+      (courseOf (take 43 lost-last) ≡ course lost-last-events Fine)
+      × (courseOf lost-last ≡ course lost-last-events (Unfit (BadBlockLength 12 20)))
+  -- a block's first word: its start is told, with its twelfth byte
+  pub first-word :
+      (courseOf (take 21 (packet (0x02000003 ∷ 7 ∷ 0x000a000e ∷ 0x40004001 ∷ [])))
+      ≡ course (Header 24 1 ∷ RangedStart 2 16 (fields 7 10 14 0) ∷ []) Fine)
+      × (courseOf (take 22 (packet (0x02000003 ∷ 7 ∷ 0x000a000e ∷ 0x40004001 ∷ [])))
+      ≡ course (Header 24 1 ∷ RangedStart 2 16 (fields 7 10 14 0) ∷ []) (Unfit (BadBlockLength 12 16)))
+  -- by length first, at the block's fourth byte
+  pub by-length :
+      courseOf (packet (0x01000001 ∷ 0x40004000 ∷ [])) ≡ course (Header 16 1 ∷ []) (Unfit (BadBlockLength 12 8))
+  -- in fields, across two words, across two blocks, in times, and in other types, its bytes are no such run
+  pub goes-on :
+      (courseOf (packet (0x01000003 ∷ 0x40004000 ∷ 0x40004000 ∷ 0x01400002 ∷ []))
+      ≡ course (Header 24 1 ∷ RangedStart 1 16 (fields 0x40004000 16384 16384 0) ∷ End ∷ []) Fine)
+      × (courseOf (packet (0x03000004 ∷ 7 ∷ 0x00050009 ∷ 0x40004000 ∷ 16384 ∷ []))
+      ≡ course
+      (Header 28 1 ∷ RangedStart 3 20 (fields 7 5 9 0) ∷ pair 5 0x40004000 ∷ pair 6 16384 ∷ End ∷ []) Fine)
+      × (courseOf (packet (0x63000003 ∷ 0x40004000 ∷ 0x40004000 ∷ 0x40004000 ∷ []))
+      ≡ course (Header 24 1 ∷ Start 99 16 ∷ End ∷ []) Fine)
+      × (courseOf (packet (0x01000003 ∷ 7 ∷ 0x000a000e ∷ 0x00010040 ∷ 0x00000000 ∷ []))
+      ≡ course (Header 28 1 ∷ RangedStart 1 16 (fields 7 10 14 0) ∷ Start 0 4 ∷ End ∷ []) Fine)
+      × (courseOf (packet (0x05000003 ∷ 16384 ∷ 0x40004000 ∷ 16384 ∷ []))
+      ≡ course (Header 24 1 ∷ Start 5 16 ∷ entry 16384 0x40004000 16384 ∷ End ∷ []) Fine)

@@ -54,6 +54,10 @@ doubled = packet (0x02000003 ∷ 7 ∷ 0x000a000e ∷ 0x40024002 ∷ [])
 abbrev pub second : List ℕ
 second = packet (0x63000000 ∷ 0x01000003 ∷ 7 ∷ 0x000a000e ∷ 0x40024002 ∷ [])
 
+-- a loss block with a run of ones of no length in its last word
+abbrev pub lost : List ℕ
+lost = packet (0x01000003 ∷ 7 ∷ 0x000a000e ∷ 0x40024000 ∷ [])
+
 -- one receipt time, and a clock behind it
 abbrev pub two-blocks : List ℕ
 two-blocks = packet (0x03000003 ∷ 7 ∷ 0x00050009 ∷ 100 ∷ 0x04000002 ∷ 1 ∷ 2 ∷ [])
@@ -125,6 +129,15 @@ pub record OfLists : Type 0 where
       × (answerTo 9 (lists 0 0 1 1 packet4) ≡ says ("refused 11 2 1" ∷ []))
       × (answerTo 9 (lists 1 0 1 1 packet4) ≡ says ("words 16386" ∷ []))
       × (answerTo 9 (lists 0 1 1 2 second) ≡ says ("words 16386 16386" ∷ []))
+  -- a run of no length, with room and without: 7 in the standard
+  pub lost-run :
+      (answerTo 2 (lists 0 0 1 9 lost) ≡ says ("refused 7 12 16" ∷ []))
+      × (answerTo 2 (lists 0 0 1 0 lost) ≡ says ("refused 7 12 16" ∷ []))
+      × (answerTo 9 (lists 0 0 1 9 lost) ≡ says ("refused 7 12 16" ∷ []))
+      × (answerTo 9 (lists 0 0 1 1 lost) ≡ says ("refused 7 12 16" ∷ []))
+      × (answerTo 14 (lists 0 0 1 0 lost) ≡ says ("refused 7 12 16" ∷ []))
+      × (answerTo 2 (lists 1 0 1 9 lost) ≡ says ("numbers 10 11" ∷ []))
+      × (answerTo 9 (lists 1 0 1 1 lost) ≡ says ("words 16386" ∷ []))
   pub of-any-type :
       (answerTo 14 (lists 1 0 1 4 packet4) ≡ says ("numbers 10 11" ∷ []))
       × (answerTo 14 (lists 0 0 1 3 packet4) ≡ says ("refused 11 4 3" ∷ []))
@@ -150,6 +163,12 @@ pub record OfBlocks : Type 0 where
       × (answerTo 3 (asks 1 1 1 packet4) ≡ says ("refused 9 1 0" ∷ []))
       × (answerTo 3 (asks 0 0 1 (packet [])) ≡ says ("refused 9 0 0" ∷ []))
       × (answerTo 3 (asks 1 0 1 (packet [])) ≡ says ("refused 1 12 8" ∷ []))
+  pub fields-of-a-lost-run :
+      (answerTo 3 (asks 0 0 1 lost) ≡ says ("refused 7 12 16" ∷ []))
+      × (answerTo 3 (asks 0 0 2 lost) ≡ says ("refused 10 1 0" ∷ []))
+      × (answerTo 3 (asks 1 0 1 lost) ≡ says ("ssrc 7 begin 10 end 14 thinning 0" ∷ []))
+      × (answerTo 8 (0 ∷ lost) ≡ says ("blocks 1 ssrc 1" ∷ []))
+      × (answerTo 11 (0 ∷ (le4 0 ++ lost)) ≡ says ("view 8 16 header 01000003" ∷ []))
   pub time :
       (answerTo 3 (asks 0 0 4 clocked) ≡ says ("time 4294967298" ∷ []))
       × (answerTo 3 (asks 0 0 4 packet4) ≡ says ("refused 10 1 0" ∷ []))
@@ -193,6 +212,11 @@ pub record OfStretches : Type 0 where
       × (answerTo 4 (steps 0 7 0 0 0 2 2 packet4) ≡ says ("refused 10 1 0" ∷ []))
       × (answerTo 4 (steps 5 1 0 0 0 2 2 packet4) ≡ says ("refused 9 1 0" ∷ []))
       × (answerTo 4 (steps 0 1 0 0 0 16385 16385 packet4) ≡ says ("refused 11 16385 16384" ∷ []))
+  -- a run of no length: before the place and the room are looked at
+  pub lost-run :
+      (answerTo 4 (steps 0 1 0 0 0 2 2 lost) ≡ says ("refused 7 12 16" ∷ []))
+      × (answerTo 4 (steps 0 1 0 2 0 2 1 lost) ≡ says ("refused 7 12 16" ∷ []))
+      × (answerTo 4 (steps 0 2 0 0 0 2 2 lost) ≡ says ("refused 10 1 0" ∷ []))
   pub cut-stretch :
       (answerTo 4 (replicate 24 0) ≡ cut) × (answerTo 4 (replicate 25 0) ≡ says ("refused 1 8 0" ∷ []))
 
@@ -205,12 +229,23 @@ pub record OfWriting : Type 0 where
   pub careful :
       (answerTo 6 (le4 28 ++ reported) ≡ says ("packet 80cf0006000000010100000400000007000a000e4002400200000000" ∷ []))
       × (answerTo 6 (le4 27 ++ reported) ≡ says ("refused 11 28 27" ∷ []))
+  -- a run of no length in the first of two records, and in the second
+  pub lost-run :
+      (answerTo 5 (le4 99 ++ (header 0 ++ report 1 10 14 0 (16386 ∷ 16384 ∷ []))) ≡ says ("refused 12 1 0" ∷ []))
+      × (answerTo 6 (le4 99 ++ (reported ++ report 2 10 14 0 (16384 ∷ []))) ≡ says ("refused 12 2 0" ∷ []))
+      × (answerTo 5 (le4 0 ++ (reported ++ report 2 10 14 0 (16384 ∷ []))) ≡ says ("refused 12 2 0" ∷ []))
   pub a-word :
       (answerTo 7 (makes 2 2 2) ≡ says ("word 4002" ∷ [])) × (answerTo 7 (makes 0 9 8) ≡ says ("word 0000" ∷ []))
       × (answerTo 7 (makes 1 3 2) ≡ says ("word 0003" ∷ [])) × (answerTo 7 (makes 3 5 9) ≡ says ("word 8005" ∷ []))
   pub no-word :
       (answerTo 7 (makes 2 2 1) ≡ says ("refused 11 2 1" ∷ []))
       × (answerTo 7 (makes 2 16384 2) ≡ says ("refused 13 16384 0" ∷ []))
+      × (answerTo 7 (makes 2 0 2) ≡ says ("refused 13 0 0" ∷ []))
+      × (answerTo 7 (makes 2 0 1) ≡ says ("refused 13 0 0" ∷ []))
+  -- the next longer run, and the 0 of the other kinds
+  pub near-a-lost-run :
+      (answerTo 7 (makes 2 1 2) ≡ says ("word 4001" ∷ [])) × (answerTo 7 (makes 1 0 2) ≡ says ("word 0000" ∷ []))
+      × (answerTo 7 (makes 3 0 2) ≡ says ("word 8000" ∷ []))
   pub marks :
       (answerTo 10 (le4 1 ++ replicate 15 1) ≡ says ("words 16399" ∷ []))
       × (answerTo 10 (le4 0 ++ replicate 15 1) ≡ says ("refused 11 1 0" ∷ []))

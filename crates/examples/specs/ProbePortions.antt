@@ -20,6 +20,10 @@ heard = packet (0x01000003 ∷ 7 ∷ 0x000a000e ∷ 0x40018000 ∷ [])
 abbrev pub unfit : List ℕ
 unfit = packet (0x63000000 ∷ 0x04000000 ∷ [])
 
+-- a number, a run of ones of no length, and a block behind it
+abbrev pub lost : List ℕ
+lost = packet (0x01000003 ∷ 7 ∷ 0x000a000e ∷ 0x40014000 ∷ 0x63000000 ∷ [])
+
 pub record OfPortions : Type 0 where
   -- all at once
   pub whole :
@@ -53,6 +57,32 @@ pub record OfPortions : Type 0 where
       ≡ says ("refused 2 0 0" ∷ "refused 2 0 0" ∷ "refused 2 0 0" ∷ []))
       × (answerTo 12 (gives 9 (16 ∷ 0 ∷ []) unfit)
       ≡ says ("header 16 1" ∷ "start 99 4" ∷ "refused 7 12 4" ∷ "refused 7 12 4" ∷ []))
+  -- a run of no length: all at once, and its two bytes apart; then it stays
+  pub lost-run :
+      (answerTo 12 (gives 9 [] lost)
+      ≡ says
+      ("header 28 1" ∷ "start 1 16 ssrc 7 begin 10 end 14 thinning 0" ∷ "number 10" ∷ "refused 7 12 16" ∷ []))
+      × (answerTo 12 (gives 9 (20 ∷ 3 ∷ 1 ∷ 0 ∷ []) lost)
+      ≡ says
+      ("header 28 1"
+      ∷ "start 1 16 ssrc 7 begin 10 end 14 thinning 0"
+      ∷ "taken 20 events 2"
+      ∷ "number 10"
+      ∷ "taken 3 events 1"
+      ∷ "refused 7 12 16"
+      ∷ "refused 7 12 16"
+      ∷ "refused 7 12 16"
+      ∷ []))
+      × (answerTo 12 (gives 2 (20 ∷ 4 ∷ []) lost)
+      ≡ says
+      ("header 28 1"
+      ∷ "start 1 16 ssrc 7 begin 10 end 14 thinning 0"
+      ∷ "taken 20 events 2"
+      ∷ "number 10"
+      ∷ "refused 7 12 16"
+      ∷ "refused 7 12 16"
+      ∷ []))
+      × (answerTo 12 (gives 2 [] lost) ≡ says ("refused 11 3 2" ∷ []))
   -- the most room
   pub room : answerTo 12 (gives 4294967295 [] (packet [])) ≡ says ("header 8 1" ∷ "end" ∷ "taken 8 events 2" ∷ [])
   -- five bytes; sizes that are not all there

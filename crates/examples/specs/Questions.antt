@@ -14,6 +14,7 @@ use Rattle.def_wire.specs.declared.Rle.the-variants.{Loss, Duplicate}
 use Rattle.def_wire.specs.declared.Ranged.the-variants.{Chunks, Times}
 use Rattle.def_wire.specs.declared.FieldsOr.the-variants.{Shown, NoneOf}
 use Rattle.def_wire.specs.declared.TimeOr.the-variants.{Time, NoTime}
+use Rattle.def_wire.specs.Packet.{countOf, viewOf}
 use Rattle.def_standard.specs.declared.Receipt.{Receipt}
 use Rattle.def_standard.specs.declared.Echo.{Echo}
 use Rattle.def_questions.specs.Questions.{wordsShown, numbersShown, pairsShown, entriesShown}
@@ -32,6 +33,13 @@ a-duplicate = rows (0x02000003 ∷ 7 ∷ 0x000a000e ∷ 0x40024003 ∷ [])
 
 abbrev pub short-loss : List ℕ
 short-loss = rows (0x01000001 ∷ 7 ∷ [])
+
+-- types 1 and 2 with a run of ones of no length: words 16386, 16384, 16385, 0, and 16384, 16386
+abbrev pub lost-loss : List ℕ
+lost-loss = rows (0x01000004 ∷ 7 ∷ 0x000a000e ∷ 0x40024000 ∷ 0x40010000 ∷ [])
+
+abbrev pub lost-duplicate : List ℕ
+lost-duplicate = rows (0x02000003 ∷ 7 ∷ 0x000a000e ∷ 0x40004002 ∷ [])
 
 -- type 3 from 5 to 9 with one time, type 5 with one entry
 abbrev pub a-receipt : List ℕ
@@ -71,6 +79,24 @@ pub record OfAView : Type 0 where
   pub seven-by-length :
       (wordsShown Crate Loss (rows (0x01000001 ∷ 7 ∷ 8 ∷ 9 ∷ [])) ≡ refused (BadBlockLength 12 8))
       × (numbersShown Crate Duplicate (rows (0x02000001 ∷ 7 ∷ 8 ∷ 9 ∷ [])) ≡ refused (BadBlockLength 12 8))
+  -- by a run of no length, in the standard; 10 first
+  pub seven-by-words :
+      (wordsShown Standard Loss lost-loss ≡ refused (BadBlockLength 12 20))
+      × (numbersShown Standard Loss lost-loss ≡ refused (BadBlockLength 12 20))
+      × (wordsShown Standard Duplicate lost-duplicate ≡ refused (BadBlockLength 12 16))
+      × (numbersShown Standard Duplicate lost-duplicate ≡ refused (BadBlockLength 12 16))
+      × (wordsShown Standard Duplicate lost-loss ≡ refused (OtherType 1))
+      × (numbersShown Standard Loss lost-duplicate ≡ refused (OtherType 2))
+  -- the crate takes it, and it covers nothing
+  pub lost-run-by-the-crate :
+      (wordsShown Crate Loss lost-loss ≡ shown (16386 ∷ 16384 ∷ 16385 ∷ []))
+      × (numbersShown Crate Loss lost-loss ≡ shown (10 ∷ 11 ∷ 12 ∷ []))
+      × (wordsShown Crate Duplicate lost-duplicate ≡ shown (16384 ∷ []))
+      × (numbersShown Crate Duplicate lost-duplicate ≡ shown [])
+  -- a time of 16384 is a time
+  pub no-word-of-times :
+      pairsShown Standard (rows (0x03000004 ∷ 7 ∷ 0x00050009 ∷ 0x40004000 ∷ 16384 ∷ []))
+      ≡ shown (pair 5 0x40004000 ∷ pair 6 16384 ∷ [])
   -- the crate's list of a type 3 block with left under 12 is empty, and not refused
   pub no-list : pairsShown Crate (rows (0x03000001 ∷ 7 ∷ [])) ≡ shown []
   -- times and entries up to the view's end, which is the packet's end for the crate
@@ -153,6 +179,42 @@ pub record OfAPacket : Type 0 where
   pub eight-refused :
       (fieldsAsked Crate (packet (0x03000001 ∷ 7 ∷ [])) 0 Times ≡ NoneOf (NoFields 8))
       × (fieldsAsked Standard (packet (0x03000001 ∷ 7 ∷ [])) 0 Times ≡ NoneOf (BadBlockLength 12 8))
+
+-- a type 1 block with a run of no length in its last word, and one without behind it
+abbrev pub lost-first : List ℕ
+lost-first = packet (0x01000003 ∷ 7 ∷ 0x000a000e ∷ 0x40024000 ∷ 0x01000003 ∷ 8 ∷ 0x000a000e ∷ 0x40018000 ∷ [])
+
+-- 7 by a run of no length, of a packet
+pub record LostRun : Type 0 where
+  -- every question about that block
+  pub refusal :
+      (wordsAsked Standard lost-first 0 Loss ≡ refused (BadBlockLength 12 16))
+      × (numbersAsked Standard lost-first 0 Loss ≡ refused (BadBlockLength 12 16))
+      × (fieldsAsked Standard lost-first 0 (Chunks Loss) ≡ NoneOf (BadBlockLength 12 16))
+      × (numbersBy Standard lost-first 0 1 ≡ refused (BadBlockLength 12 16))
+  -- and about no other
+  pub others :
+      (wordsAsked Standard lost-first 1 Loss ≡ shown (16385 ∷ 32768 ∷ []))
+      × (numbersAsked Standard lost-first 1 Loss ≡ shown (10 ∷ []))
+      × (fieldsAsked Standard lost-first 1 (Chunks Loss) ≡ Shown (fields 8 10 14 0))
+  -- 9 and 10 first, a number that is not served too
+  pub after-ten :
+      (numbersAsked Standard lost-first 2 Loss ≡ refused (NoBlock 2))
+      × (numbersAsked Standard lost-first 0 Duplicate ≡ refused (OtherType 1))
+      × (fieldsBy Standard lost-first 0 9 ≡ NoneOf (OtherType 1))
+  -- 11 behind it: no room, and as much as would be needed
+  pub before-eleven :
+      Listed (numbersAsked Standard lost-first 0 Loss) [] (Refused (BadBlockLength 12 16)) []
+      × Listed (wordsAsked Standard lost-first 0 Loss) (1 ∷ 2 ∷ []) (Refused (BadBlockLength 12 16)) (1 ∷ 2 ∷ [])
+  -- the crate answers
+  pub by-the-crate :
+      (wordsAsked Crate lost-first 0 Loss ≡ shown (16386 ∷ []))
+      × (numbersAsked Crate lost-first 0 Loss ≡ shown (10 ∷ 11 ∷ []))
+      × (fieldsAsked Crate lost-first 0 (Chunks Loss) ≡ Shown (fields 7 10 14 0))
+  -- the walk and the view are as they were
+  pub walked :
+      (countOf Standard lost-first ≡ Done 2)
+      × (viewOf Standard lost-first 0 ≡ shown (rows (0x01000003 ∷ 7 ∷ 0x000a000e ∷ 0x40024000 ∷ [])))
 
 -- the asked type by a number: one that the question does not serve is 10 with the block's own type
 pub record ByNumber : Type 0 where

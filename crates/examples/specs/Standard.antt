@@ -47,19 +47,26 @@ pub record ChunkWords : Type 0 where
       ≡ Null ∷ Skip 1 ∷ Skip 16383 ∷ Run 0 ∷ Run 1 ∷ Run 16383 ∷ Vector 0 ∷ Vector 32767 ∷ []
   -- the word of a kind, up to the limit; SkipLength(0) is 0
   pub made :
-      map wordOf (Null ∷ Skip 0 ∷ Skip 1 ∷ Skip 16383 ∷ Run 0 ∷ Run 1 ∷ Run 16383 ∷ Vector 0 ∷ Vector 32767 ∷ [])
-      ≡ Word 0 ∷ Word 0 ∷ Word 1 ∷ Word 16383 ∷ Word 16384 ∷ Word 16385 ∷ Word 32767 ∷ Word 32768 ∷ Word 65535 ∷ []
+      map wordOf (Null ∷ Skip 0 ∷ Skip 1 ∷ Skip 16383 ∷ Run 1 ∷ Run 16383 ∷ Vector 0 ∷ Vector 32767 ∷ [])
+      ≡ Word 0 ∷ Word 0 ∷ Word 1 ∷ Word 16383 ∷ Word 16385 ∷ Word 32767 ∷ Word 32768 ∷ Word 65535 ∷ []
   -- 13 with the value: one over the limit, and far over
   pub thirteen :
       (wordOf (Skip 16384) ≡ Unmade (ValueTooLarge 16384)) × (wordOf (Run 16384) ≡ Unmade (ValueTooLarge 16384))
       × (wordOf (Vector 32768) ≡ Unmade (ValueTooLarge 32768)) × (wordOf (Run 65537) ≡ Unmade (ValueTooLarge 65537))
+  -- 13 with 0: a run of ones of no length, and no other kind's 0
+  pub lost-run : map wordOf (Run 0 ∷ Skip 0 ∷ Vector 0 ∷ []) ≡ Unmade (ValueTooLarge 0) ∷ Word 0 ∷ Word 32768 ∷ []
   -- two bytes, big-endian
-  pub bytes : (wordBytes (Run 2) ≡ shown (0x40 ∷ 2 ∷ [])) × (wordBytes (Run 16384) ≡ refused (ValueTooLarge 16384))
+  pub bytes :
+      (wordBytes (Run 2) ≡ shown (0x40 ∷ 2 ∷ [])) × (wordBytes (Run 16384) ≡ refused (ValueTooLarge 16384))
+      × (wordBytes (Run 1) ≡ shown (0x40 ∷ 1 ∷ [])) × (wordBytes (Run 0) ≡ refused (ValueTooLarge 0))
+      × (wordBytes (Skip 0) ≡ shown (0 ∷ 0 ∷ []))
   -- 13 before 11; the room needed is 2
   pub into-a-buffer :
       Listed (wordBytes (Run 2)) (8 ∷ 9 ∷ 10 ∷ []) (Done 2) (0x40 ∷ 2 ∷ 10 ∷ [])
       × Listed (wordBytes (Run 2)) (8 ∷ []) (Refused (NoRoom 2 1)) (8 ∷ [])
       × Listed (wordBytes (Run 16384)) [] (Refused (ValueTooLarge 16384)) []
+      × Listed (wordBytes (Run 0)) [] (Refused (ValueTooLarge 0)) []
+      × Listed (wordBytes (Run 0)) (8 ∷ 9 ∷ []) (Refused (ValueTooLarge 0)) (8 ∷ 9 ∷ [])
 
 -- a number and its time
 abbrev pub pair : ℕ → ℕ → Receipt

@@ -1,9 +1,11 @@
--- Facts of def_wire's Block: header bytes, kinds by their numbers, length rules, refusals 10, 7 and 8.
+-- Facts of def_wire's Block: header bytes, kinds by their numbers, length rules, the run of no length, refusals 10, 7
+-- and 8.
 -- RULES, "Packet and blocks", "Standard reading", "Crate reading" and "Refusal numbers".
-use Prim.Native.Nat.{ℕ}
+use Prim.Native.Nat.{ℕ, _+_}
 use mathlib.Core.Path.{_≡_}
 use mathlib.Core.Bool.{true, false}
-use mathlib.Core.List.{List, [], _∷_, map}
+use mathlib.Core.List.{List, [], _∷_, _++_, map}
+use lib.ListN.{length}
 use Rattle.def_refusals.specs.declared.Refusal.the-variants.{OtherType, BadBlockLength, NoFields}
 use Rattle.def_refusals.specs.declared.Checked.the-variants.{Fine, Unfit}
 use Rattle.def_wire.specs.declared.Reading.the-variants.{Standard, Crate}
@@ -17,7 +19,7 @@ use Rattle.def_wire.specs.declared.FieldsOr.the-variants.{Shown, NoneOf}
 use Rattle.def_wire.specs.declared.TimeOr.the-variants.{Time, NoTime}
 use Rattle.def_wire.specs.Block.{headerData, typeOf, specificOf, blockLength, fieldsAt, timeAt, kindType}
 use Rattle.def_wire.specs.Block.{rleOf, rangedOf, kindOf, rule, nextFit, standardRule, crateRule, fitness, checkOf}
-use Rattle.def_wire.specs.Block.{isCut, fieldsOf, timeOf}
+use Rattle.def_wire.specs.Block.{isCut, fieldsOf, timeOf, wordsAt, lostRun, has, clearRule, wordRule}
 use Rattle.examples.specs.Rows.{fields, rows}
 
 -- the numbers that ask for a kind, those around them, and those that a byte or two bytes would take for one
@@ -109,6 +111,92 @@ pub record LengthRules : Type 0 where
       × (fitness Crate Clock (rows (0x04000003 ∷ 0 ∷ 0 ∷ 0 ∷ [])) ≡ Fine)
       × (fitness Crate Echoes (rows (0x05000000 ∷ 0x04000002 ∷ 0 ∷ 0 ∷ 0 ∷ [])) ≡ Unfit (BadBlockLength 8 20))
       × (fitness Crate (Spans (Chunks Loss)) (rows (0x01000001 ∷ 0 ∷ 0 ∷ 0 ∷ [])) ≡ Unfit (BadBlockLength 12 8))
+
+-- a type 1 and a type 2 block with words, two to a row; every field is 16384, twice
+abbrev pub loss-with : List ℕ → List ℕ
+loss-with ws = rows ((0x01000002 + length ws) ∷ 0x40004000 ∷ 0x40004000 ∷ ws)
+
+abbrev pub duplicate-with : List ℕ → List ℕ
+duplicate-with ws = rows ((0x02000002 + length ws) ∷ 0x40004000 ∷ 0x40004000 ∷ ws)
+
+-- a run of ones of no length: of types 1 and 2, in the standard reading, 7 with 12 and L
+pub record LostRuns : Type 0 where
+  pub the-word : lostRun ≡ 16384
+  -- words from byte 12 on, whole ones
+  pub words :
+      (wordsAt (loss-with (0x12345678 ∷ [])) ≡ 0x1234 ∷ 0x5678 ∷ []) × (wordsAt (loss-with []) ≡ [])
+      × (wordsAt (loss-with [] ++ (0x40 ∷ [])) ≡ []) × (wordsAt (loss-with [] ++ (0x40 ∷ 0 ∷ 1 ∷ [])) ≡ 16384 ∷ [])
+  -- none; the first, one in the middle, the last; alone; not there
+  pub among :
+      (has 5 [] ≡ false) × (has 5 (5 ∷ 6 ∷ 7 ∷ []) ≡ true) × (has 6 (5 ∷ 6 ∷ 7 ∷ []) ≡ true)
+      × (has 7 (5 ∷ 6 ∷ 7 ∷ []) ≡ true) × (has 5 (5 ∷ []) ≡ true) × (has 8 (5 ∷ 6 ∷ 7 ∷ []) ≡ false)
+      × (has 5 (6 ∷ []) ≡ false)
+  -- the length given goes with it
+  pub of-words :
+      (clearRule 16 [] ≡ Fine) × (clearRule 16 (16384 ∷ []) ≡ Unfit (BadBlockLength 12 16))
+      × (clearRule 20 (16385 ∷ 16384 ∷ 0 ∷ []) ≡ Unfit (BadBlockLength 12 20))
+      × (clearRule 12 (1 ∷ 16384 ∷ []) ≡ Unfit (BadBlockLength 12 12))
+  -- its neighbours, its bytes exchanged, its bits moved, with the top bit too, and nothing
+  pub other-words : clearRule 16 (16383 ∷ 16385 ∷ 64 ∷ 8192 ∷ 32768 ∷ 49152 ∷ 0 ∷ []) ≡ Fine
+  -- of types 1 and 2 alone
+  pub of-kinds :
+      (wordRule (Spans (Chunks Loss)) 16 (loss-with (0x40004001 ∷ [])) ≡ Unfit (BadBlockLength 12 16))
+      × (wordRule (Spans (Chunks Duplicate)) 16 (loss-with (0x40004001 ∷ [])) ≡ Unfit (BadBlockLength 12 16))
+      × (wordRule (Spans Times) 16 (loss-with (0x40004001 ∷ [])) ≡ Fine)
+      × (wordRule Clock 16 (loss-with (0x40004001 ∷ [])) ≡ Fine)
+      × (wordRule Echoes 16 (loss-with (0x40004001 ∷ [])) ≡ Fine)
+  -- the first word, one in the middle, the last, the only one that is not 0
+  pub refusal :
+      (fitness Standard (Spans (Chunks Loss)) (loss-with (0x40004001 ∷ [])) ≡ Unfit (BadBlockLength 12 16))
+      × (fitness Standard (Spans (Chunks Loss)) (loss-with (0x40014001 ∷ 0x40004001 ∷ 0x40014001 ∷ []))
+      ≡ Unfit (BadBlockLength 12 24))
+      × (fitness Standard (Spans (Chunks Loss)) (loss-with (0x40014001 ∷ 0x40014000 ∷ []))
+      ≡ Unfit (BadBlockLength 12 20))
+      × (fitness Standard (Spans (Chunks Duplicate)) (duplicate-with (0x40000000 ∷ [])) ≡ Unfit (BadBlockLength 12 16))
+      × (fitness Standard (Spans (Chunks Duplicate)) (duplicate-with (0x00004000 ∷ [])) ≡ Unfit (BadBlockLength 12 16))
+  -- where the words before it have covered the range, from 10 to 11
+  pub past-the-range :
+      fitness Standard (Spans (Chunks Loss)) (rows (0x01000004 ∷ 7 ∷ 0x000a000b ∷ 0x7fff7fff ∷ 0x40014000 ∷ []))
+      ≡ Unfit (BadBlockLength 12 20)
+  -- every field may be 16384; its bytes may stand across two words, or across the fields and the first word
+  pub not-a-word :
+      (fitness Standard (Spans (Chunks Loss)) (loss-with []) ≡ Fine)
+      × (fitness Standard (Spans (Chunks Loss)) (loss-with (0x40014001 ∷ [])) ≡ Fine)
+      × (fitness Standard (Spans (Chunks Loss)) (loss-with (0x01400002 ∷ [])) ≡ Fine)
+      × (fitness Standard (Spans (Chunks Duplicate)) (duplicate-with (0x00400000 ∷ 0x00400001 ∷ [])) ≡ Fine)
+      × (fitness Standard (Spans (Chunks Loss)) (rows (0x01400003 ∷ 7 ∷ 0x000a0040 ∷ 0x00010002 ∷ [])) ≡ Fine)
+  -- L is the length of what is given, not the length field's; by length first
+  pub by-length :
+      (fitness Standard (Spans (Chunks Loss)) (rows (0x01000005 ∷ 7 ∷ 0 ∷ 0x40004001 ∷ []))
+      ≡ Unfit (BadBlockLength 12 16))
+      × (fitness Standard (Spans (Chunks Loss)) (rows (0x01000001 ∷ 0x40004000 ∷ [])) ≡ Unfit (BadBlockLength 12 8))
+  -- times, a clock and entries of 16384 are what they are
+  pub other-kinds :
+      (fitness Standard (Spans Times) (rows (0x03000004 ∷ 7 ∷ 0x00050009 ∷ 0x40004000 ∷ 16384 ∷ [])) ≡ Fine)
+      × (fitness Standard Clock (rows (0x04000002 ∷ 0x40004000 ∷ 0x40004000 ∷ [])) ≡ Fine)
+      × (fitness Standard Echoes (rows (0x05000006 ∷ 1 ∷ 2 ∷ 0x40004000 ∷ 0x40004000 ∷ 16384 ∷ 16384 ∷ [])) ≡ Fine)
+  -- their own rules are as they were
+  pub other-rules :
+      (fitness Standard (Spans Times) (rows (0x03000001 ∷ 0x40004000 ∷ [])) ≡ Unfit (BadBlockLength 12 8))
+      × (fitness Standard Clock (rows (0x04000003 ∷ 1 ∷ 2 ∷ 0x40004000 ∷ [])) ≡ Unfit (BadBlockLength 12 16))
+      × (fitness Standard Echoes (rows (0x05000004 ∷ 1 ∷ 2 ∷ 3 ∷ 0x40004000 ∷ [])) ≡ Unfit (BadBlockLength 28 20))
+  -- the crate takes the word
+  pub by-the-crate :
+      (fitness Crate (Spans (Chunks Loss)) (loss-with (0x40004001 ∷ [])) ≡ Fine)
+      × (fitness Crate (Spans (Chunks Duplicate)) (duplicate-with (0x40014000 ∷ 0x40000000 ∷ [])) ≡ Fine)
+  -- 10 first
+  pub checked :
+      (checkOf Standard (Spans (Chunks Loss)) (loss-with (0x40004001 ∷ [])) ≡ Unfit (BadBlockLength 12 16))
+      × (checkOf Standard (Spans (Chunks Duplicate)) (loss-with (0x40004001 ∷ [])) ≡ Unfit (OtherType 1))
+      × (checkOf Standard (Spans (Chunks Loss)) (duplicate-with (0x40004001 ∷ [])) ≡ Unfit (OtherType 2))
+      × (checkOf Standard (Spans Times) (loss-with (0x40004001 ∷ [])) ≡ Unfit (OtherType 1))
+      × (checkOf Crate (Spans (Chunks Loss)) (loss-with (0x40004001 ∷ [])) ≡ Fine)
+  -- its fields are not shown either
+  pub no-fields :
+      (fieldsOf Standard (Chunks Loss) (loss-with (0x40014000 ∷ [])) ≡ NoneOf (BadBlockLength 12 16))
+      × (fieldsOf Standard (Chunks Duplicate) (duplicate-with (0x40004001 ∷ [])) ≡ NoneOf (BadBlockLength 12 16))
+      × (fieldsOf Crate (Chunks Loss) (loss-with (0x40014000 ∷ []))
+      ≡ Shown (fields 0x40004000 0x4000 0x4000 0))
 
 -- a type 1 block that is too short, and a type 2 block of the same bytes
 abbrev pub short-loss : List ℕ
