@@ -11,7 +11,7 @@ use Prim.Native.Nat.{ℕ, _≤_, _<_}
 use mathlib.Core.Path.{_≡_}
 use mathlib.Core.Bool.{false}
 use mathlib.Core.List.{List, [], _∷_, _++_}
-use lib.ListN.{length, take}
+use lib.ListN.{take}
 use Rattle.def_refusals.specs.declared.Refusal.the-variants.{NoRoom, PastEnd}
 use Rattle.def_refusals.specs.declared.Answer.the-variants.{Done}
 use Rattle.def_refusals.specs.declared.Checked.{Checked}
