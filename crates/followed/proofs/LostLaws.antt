@@ -6,7 +6,7 @@
 --     numbersThen, listedThen                 what the bytes behind the fields list, and then a course
 --     short-then, ranged-then                 a block of types 1 to 3, before its fields have come and with them
 --     whole-then                              a block without such a run, and then a course
-use Prim.Native.Nat.{ℕ, zero, suc, _+_, _*_, _-_, _/_, _%_, _≤_, _<_}
+use Prim.Native.Nat.{ℕ, zero, suc, _+_, _*_, _%_, _≤_, _<_}
 use mathlib.Core.Path.{_≡_, refl, sym, ap, _∙_}
 use mathlib.Core.Bool.{false}
 use mathlib.Core.List.{List, [], _∷_, map}

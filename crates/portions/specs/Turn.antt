@@ -1,6 +1,6 @@
 -- One turn of the loops over some bytes.
---     WholeAt         at an index the r bytes of a whole block begin, with no run of no length, and the state s is before
---                     it
+--     WholeAt         at an index the r bytes of a whole block begin, with no run of no length among its words, and the
+--                     state s is before it
 --     Turned          from an index on, m bytes first: their events es, and the state st behind them
 --     TurnCounted     a turn whose events are counted
 --     TurnStored      a turn whose events are stored in three lists from index n on
