@@ -35,7 +35,7 @@ use Rattle.def_portions.specs.Events.{kindThen}
 
 -- ---- words
 
-pub words-take : (n : ℕ) (bs : List ℕ) → words16 (take (2 * n) bs) ≡ take n (words16 bs)
+words-take : (n : ℕ) (bs : List ℕ) → words16 (take (2 * n) bs) ≡ take n (words16 bs)
 unfolding pairUp
 words-take zero bs = refl
 words-take (suc n) [] = rw (take-nil (2 * suc n))
@@ -57,7 +57,7 @@ pub clear-nil : clearWords [] ≡ 0
 unfolding clearWords
 clear-nil = refl
 
-pub clear-all : (ws : List ℕ) → has lostRun ws ≡ false → clearWords ws ≡ length ws
+clear-all : (ws : List ℕ) → has lostRun ws ≡ false → clearWords ws ≡ length ws
 clear-all [] e = clear-nil
 clear-all (w ∷ ws) e =
     either (eqb w lostRun)

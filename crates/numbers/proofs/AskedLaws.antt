@@ -53,7 +53,8 @@ listed-as e l = rw (← e) l
 module _ (a : Rle) (v : List ℕ) (f : Fields) (b : List ℕ) (read : f ≡ fieldsAt v) where
   -- the standard's: the words are judged with the list
   pub numbers-standard : lengthCheck a v ≡ Fine → b ≡ wordBytes Standard v
-      → onFine (clearRule (length v) (words16 b)) (shown (numbersOf (rangeOf f) (words16 b))) ≡ numbersShown Standard a v
+      → onFine (clearRule (length v) (words16 b)) (shown (numbersOf (rangeOf f) (words16 b)))
+      ≡ numbersShown Standard a v
   unfolding numbersShown
   numbers-standard e bytes = rw (read, bytes, length-first a v, e)
 

@@ -24,10 +24,11 @@ fn word_bytes(r: Reading, v: &[u8]) -> &[u8]
     }
 }
 
-// The numbers of a block's view in the standard reading: 10, 7 by the length, 7 by the words, 11. The words are gone over
-// once before they are listed (rle_standard).
+// The numbers of a block's view in the standard reading: 10, 7 by the length, 7 by the words, 11. The words are gone
+// over once before they are listed (rle_standard).
 fn standard_numbers(a: Rle, v: &[u8], out: &mut [u16]) -> Answer
-    ensures { λ n. ⌜ Listed (numbersShown Reading.Standard a (now (v .entry))) (now (out .entry)) n (now (out .exit)) ⌝ }
+    ensures { λ n. ⌜ Listed (numbersShown Reading.Standard a (now (v .entry))) (now (out .entry)) n
+        (now (out .exit)) ⌝ }
 {
     match block::check_length(a, v) {
         Checked::Fine => {
@@ -40,7 +41,8 @@ fn standard_numbers(a: Rle, v: &[u8], out: &mut [u16]) -> Answer
 
 // In the crate reading: 10, 7, 11.
 fn crate_numbers(a: Rle, v: &[u8], out: &mut [u16]) -> Answer
-    ensures { λ n. ⌜ Listed (numbersShown Reading.Crate a (now (v .entry))) (now (out .entry)) n (now (out .exit)) ⌝ }
+    ensures { λ n. ⌜ Listed (numbersShown Reading.Crate a (now (v .entry))) (now (out .entry)) n
+        (now (out .exit)) ⌝ }
 {
     match block::check_chunks(Reading::Crate, a, v) {
         Checked::Fine => {

@@ -10,8 +10,8 @@ use mathlib.Core.List.{List, [], _∷_, _++_}
 use native.Mathlib.Omega.{arith}
 use lib.ListN.{length, getD, replicate}
 use lib.Dec.{eqb}
-use borrow.Author.Tests.{eqb-true, eqb-false, ne-eqb}
-use Rattle.laws.proofs.Tests.{either, true≢false}
+use borrow.Author.Tests.{eqb-false, ne-eqb}
+use Rattle.laws.proofs.Tests.{either}
 use Rattle.def_refusals.specs.declared.Refusal.the-variants.{BadBlockLength}
 use Rattle.def_refusals.specs.declared.Checked.{Checked}
 use Rattle.def_refusals.specs.declared.Checked.the-variants.{Fine, Unfit}
@@ -105,14 +105,6 @@ module _ (w : ℕ) where
   has-none [] h = has-nil
   has-none (x ∷ xs) h =
       has-behind x xs (h 0 (omega arith)) ∙ has-none xs (λ i l. h (suc i) (omega arith))
-
-  pub none-has : (xs : List ℕ) → has w xs ≡ false → (i : ℕ) → i < length xs → getD xs i 0 ≡ w → ⊥
-  none-has [] h i l e = absurd (omega arith)
-  none-has (x ∷ xs) h zero l e = absurd (true≢false (sym h ∙ has-here x xs e))
-  none-has (x ∷ xs) h (suc i) l e =
-      either (eqb x w)
-      (λ t. absurd (true≢false (sym h ∙ has-here x xs (eqb-true x w t))))
-      (λ f. none-has xs (sym (has-behind x xs (eqb-false x w f)) ∙ h) i (omega arith) e)
 
 -- no zero word is a run of no length
 pub has-zeros : (n : ℕ) → has lostRun (replicate n 0) ≡ false

@@ -52,7 +52,9 @@ module _ (bytes : List ℕ) (at : ℕ) where
   pub low-cons : at + 1 < length bytes
       → low16 (drop at bytes) ≡ (byteAt bytes (at + 1) * 256 + byteAt bytes at) ∷ low16 (drop (at + 2) bytes)
   low-cons h =
-      let e : byteAt bytes at + byteAt bytes (at + 1) * 256 ≡ byteAt bytes (at + 1) * 256 + byteAt bytes at = omega arith in
+      let x = byteAt bytes at in
+      let y = byteAt bytes (at + 1) in
+      let e : x + y * 256 ≡ y * 256 + x = omega arith in
       rw (← e) (pairLow-cons 256 bytes at (omega arith))
 
   pub low-end : length bytes ≤ at + 1 → low16 (drop at bytes) ≡ []

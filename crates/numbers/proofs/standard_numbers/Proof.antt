@@ -21,7 +21,8 @@ returns c = let fc = c .before .before in
     let a = h .before .before .before .args in
     let ws = words16 (w .word-bytes .result .now) in
     let e = numbers-standard (a .a) (a .v .now) (f .fields-at .result) (w .word-bytes .result .now)
-    (f .fields-at .ensures) (sym (h .check-length .ensures) ∙ f .before .enum-told .given .1) (w .word-bytes .ensures) in
+    (f .fields-at .ensures) (sym (h .check-length .ensures) ∙ f .before .enum-told .given .1)
+    (w .word-bytes .ensures) in
     listed-as (ap (λ (q : Range). onFine (clearRule (length (a .v .now)) ws) (shown (numbersOf q ws)))
     (g .range-of .ensures) ∙ e) (fc .fill-clear .ensures)
 
