@@ -252,11 +252,10 @@ fn numbers_by_the_cursor() {
         let (begin, end, thinning) = support::range(&mut random);
         let words: Vec<u16> = (0..random.below(300))
             .map(|_| match random.below(6) {
-                0 => 0x4000 | random.below(400) as u16,
-                1 => 0,
-                2 => 0x4000,
+                0 => 0x4001 + random.below(400) as u16,
+                1 | 2 => 0,
                 3 => random.below(200) as u16,
-                _ => support::word(&mut random),
+                _ => support::good_word(&mut random),
             })
             .collect();
         let builder = LossRle::builder().begin(begin).end(end).thinning(thinning).add_words(&words);
