@@ -140,9 +140,11 @@ fn advance_words(bytes: &[u8], g: Range, c: Cursor, budget: usize, out: &mut [u1
 }
 
 // Takes at most budget steps in a block, asked as type 1 or 2: 10, 7, 16, 11. It lists the stretch's numbers and
-// gives the next cursor and the steps taken. A call costs what the words that it reads and the numbers that it stores
-// cost, whatever the budget (RULES, "Views, cursors and the dump"; RFC 3611, 4.1). Port of: rle.rs RleSequenceIter;
-// differs: a budget and a cursor in place of an iterator, and the standard reading.
+// gives the next cursor and the steps taken. Each call goes over all of the block's words first, for a run of ones of
+// no length (word_scan; 7): take as many steps at a time as the block has words, or more. Beside that a call costs what
+// the words that it reads and the numbers that it stores cost, whatever the budget (RULES, "Views, cursors and the
+// dump"; RFC 3611, 4.1). Port of: rle.rs RleSequenceIter; differs: a budget and a cursor in place of an iterator, and
+// the standard reading.
 pub fn advance(a: Rle, v: &[u8], c: Cursor, budget: usize, out: &mut [u16]) -> Advanced
     ensures { λ r. ⌜ Stretched a (now (v .entry)) c budget (now (out .entry)) r (now (out .exit)) ⌝ }
 {
