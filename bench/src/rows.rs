@@ -101,7 +101,7 @@ pub fn numbers(t: &mut Table) {
         ("vectors of ones", vec![0xFFFF; 100], BAR),
         ("vectors of one bit", (0..100).map(|i| 0x8000 | 1 << (i * 7 % 15)).collect(), BAR),
         ("vectors of zeros", vec![0x8000; 100], BAR),
-        ("zeros", runs(100, 0, 5), BAR),
+        ("runs of zeros", vec![5; 100], BAR),
     ];
     for (name, words, bar) in &kinds {
         t.row(&format!("{name}: crate reading"), listed(CRATE, &loss(careful(words.clone()))), *bar);
