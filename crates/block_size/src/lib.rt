@@ -1,14 +1,12 @@
 // The block that a record asks for: whether the record is good, and how many bytes its block has (RULES, "Job lists and
 // writing").
 ghost use mathlib.Core.Path.{_≡_};
-ghost use mathlib.Core.Bool.{not, _&&_};
 ghost use Prim.Native.Nat.{_≤_};
 ghost use lib.ListN.{length, drop};
-ghost use Rattle.def_wire.specs.Block.{lostRun, has};
 ghost use Rattle.def_jobs.specs.Jobs.{low16, hasFields, isBlockJob};
 ghost use Rattle.def_jobs.specs.Layout.{zerosBehind, blockBytes};
 ghost use Rattle.jobs.specs.Places.{jobOf};
-ghost use Rattle.block_size.specs.Judged.{judgedSize};
+ghost use Rattle.block_size.specs.Judged.{judgedSize, hasWords};
 use def_jobs::Layout;
 use def_wire::Kind;
 use def_wire::KindOr;
@@ -30,8 +28,7 @@ fn has_fields(body: &[u8], bytes: usize) -> bool
 
 // Fields and words of which none is a run of ones of no length (RULES, "Job lists and writing").
 fn has_words(body: &[u8]) -> bool
-    ensures { λ r. ⌜ r ≡ (hasFields (jobOf 1 (now (body .entry))) 2
-        && not (has lostRun (low16 (drop 10 (now (body .entry)))))) ⌝ }
+    ensures { λ r. ⌜ r ≡ hasWords (jobOf 1 (now (body .entry))) ⌝ }
 {
     if has_fields(body, 2) {
         return !word_scan::has_lost_run_low(utils::part(body, 10, body.len()));

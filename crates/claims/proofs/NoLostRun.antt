@@ -9,10 +9,9 @@ use lib.ListN.{length, take}
 use lib.Dec.{ltb, leb, eqb}
 use borrow.Author.Tests.{le-ltb, ltb-true, ltb-false, leb-true, eqb-false}
 use Rattle.laws.proofs.Tests.{either, by-test}
-use Rattle.def_refusals.specs.declared.Checked.{Checked}
-use Rattle.def_refusals.specs.declared.Checked.the-variants.{Fine, Unfit}
+use Rattle.def_refusals.specs.declared.Checked.the-variants.{Fine}
 use Rattle.def_refusals.specs.declared.Refusal.the-variants.{NoBlock}
-use Rattle.def_refusals.specs.Answers.{shown, refused, onShown, thenCheck}
+use Rattle.def_refusals.specs.Answers.{shown, refused, onShown}
 use Rattle.def_wire.specs.declared.Reading.the-variants.{Standard}
 use Rattle.def_wire.specs.declared.Rle.{Rle}
 use Rattle.def_wire.specs.declared.Ranged.the-variants.{Chunks}
@@ -35,6 +34,7 @@ use Rattle.def_jobs.specs.Jobs.{Job, jobsOf, askedOf}
 use Rattle.def_jobs.specs.Writing.{packetOf}
 use Rattle.def_marks.specs.Marks.{marksAsked}
 use Rattle.utils.proofs.BytesLaws.{words16-two}
+use Rattle.followed.proofs.CheckLaws.{both-fine}
 use Rattle.utils.proofs.ClearLaws.{fit-chunks, fine-clear, has-nil, has-behind}
 use Rattle.marked.proofs.FaultLaws.{fault-fine}
 use Rattle.heard.proofs.ValuesLaws.{words-clear as clear-words}
@@ -55,10 +55,6 @@ words-clear ms out out′ n p =
 
 -- ---- both layouts
 
-second-fine : (x y : Checked) → thenCheck x y ≡ Fine → y ≡ Fine
-second-fine Fine y e = e
-second-fine (Unfit z) y e = no-fault e
-
 -- a block that the standard shows is fit to be read, and so its words are clear
 module _ (a : Rle) (v : List ℕ) where
   check-clear : checkOf Standard (Spans (Chunks a)) v ≡ Fine → has lostRun (wordsAt v) ≡ false
@@ -66,7 +62,7 @@ module _ (a : Rle) (v : List ℕ) where
   check-clear =
       by-test (eqb (typeOf v) (kindType (Spans (Chunks a))))
       (λ _ e. fine-clear (length v) (wordsAt v)
-      (second-fine (standardRule (Spans (Chunks a)) (length v)) _ (sym (fit-chunks v a) ∙ e))) (λ _ e. no-fault e)
+      (both-fine (standardRule (Spans (Chunks a)) (length v)) _ (sym (fit-chunks v a) ∙ e) .1)) (λ _ e. no-fault e)
 
   fields-clear : (x : FieldsOr) (r : Record) → fieldsOf Standard (Chunks a) v ≡ x
       → onFields x (λ f. onShown (numbersShown Standard a v) (λ l. shown (reported a f l))) ≡ shown r
