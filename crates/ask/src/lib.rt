@@ -1,4 +1,4 @@
-// The questions of xrprobe that are not answered by a list of numbers (README, "xrprobe", kinds 3, 5 to 8 and 11): the
+// The questions of xrprobe that are not answered by a list of numbers (README, "xrprobe", kinds 3, 5 to 8, 11 and 13): the
 // library's function is asked, and the answer's line or the refusal is added to the buffer. A packet and a chunk word
 // are made in memory of so much room, lent with a pattern in it. Each function promises that it has added exactly
 // def_probe's line.
@@ -7,13 +7,13 @@ ghost use lib.ListN.{length};
 ghost use Rattle.def_refusals.specs.Answers.{Listed};
 ghost use Rattle.def_wire.specs.Packet.{countOf, locate};
 ghost use Rattle.def_standard.specs.Chunks.{wordBytes};
-ghost use Rattle.def_questions.specs.Packets.{timeAsked};
+ghost use Rattle.def_questions.specs.Packets.{timeAsked, summaryAsked};
 ghost use Rattle.def_questions.specs.ByNumber.{fieldsBy};
 ghost use Rattle.def_jobs.specs.Writing.{packetOf};
 ghost use Rattle.def_text.specs.Buffer.{Added};
 ghost use Rattle.def_dump.specs.Lines.{packetLine};
 ghost use Rattle.def_probe.specs.Requests.{mostWritten, mostMade, lineIn, fieldsTold, timeTold, blocksTold, viewTold};
-ghost use Rattle.def_probe.specs.Requests.{wordTold};
+ghost use Rattle.def_probe.specs.Requests.{wordTold, summaryTold};
 ghost use Rattle.lent.specs.Pattern.{mark8};
 ghost use Rattle.lent.specs.Telling.{tellList};
 use def_jobs::Layout;
@@ -22,6 +22,7 @@ use def_standard::Chunk;
 use def_wire::FieldsOr;
 use def_wire::Located;
 use def_wire::Reading;
+use def_wire::SummaryOr;
 use def_wire::TimeOr;
 use xr::Parsed;
 
@@ -45,6 +46,17 @@ pub fn time(r: Reading, s: &[u8], k: usize, buf: &mut [u8], at: usize) -> usize
     match block::time_in(r, s, k) {
         TimeOr::Time(t) => lines::time_line(buf, at, t.0),
         TimeOr::NoTime(x) => lines::refusal_line(buf, at, x),
+    }
+}
+
+// Block k's summary.
+pub fn summed(r: Reading, s: &[u8], k: usize, buf: &mut [u8], at: usize) -> usize
+    ensures { λ n. ⌜ Added (now (buf .entry)) at (summaryTold (summaryAsked r (now (s .entry)) k))
+        (now (buf .exit)) n ⌝ }
+{
+    match summary::summary_in(r, s, k) {
+        SummaryOr::Stated(x) => summary_lines::summary_lines(buf, at, x),
+        SummaryOr::NoSummary(x) => lines::refusal_line(buf, at, x),
     }
 }
 

@@ -3,7 +3,7 @@
 // to the buffer, then what it took or its refusal. `calls` promises that it has added exactly def_probe's text.
 ghost use Prim.Native.Nat.{_<_};
 ghost use mathlib.Core.List.{[]};
-ghost use Rattle.def_questions.specs.Questions.{least3};
+ghost use Rattle.def_portions.specs.Lists.{roomIn};
 ghost use Rattle.def_text.specs.Buffer.{Added};
 ghost use Rattle.def_dump.specs.EventLines.{givenLine};
 ghost use Rattle.def_probe.specs.Requests.{endingOf, sizesAt, callsText, portionsText};
@@ -47,15 +47,16 @@ fn one(
     tags: &mut [u64],
     numbers: &mut [u16],
     values: &mut [u64],
+    sums: &mut [u64],
     buf: &mut [u8],
     at: usize,
 ) -> Told
     ensures { λ r. ⌜ Telling st (now (x .entry))
-        (least3 (now (tags .entry)) (now (numbers .entry)) (now (values .entry))) (now (buf .entry)) at r
+        (roomIn (now (tags .entry)) (now (numbers .entry)) (now (values .entry)) (now (sums .entry))) (now (buf .entry)) at r
         (now (buf .exit)) ⌝ }
 {
-    let r = portions::follow(st, x, tags, numbers, values);
-    let n = event_lines::event_lines(buf, at, tags, numbers, values, r.events);
+    let r = portions::follow(st, x, tags, numbers, values, sums);
+    let n = event_lines::event_lines(buf, at, tags, numbers, values, sums, r.events);
     let state = r.state;
     let refusal = r.refusal;
     Told {
@@ -73,12 +74,13 @@ fn calls_into(
     tags: &mut [u64],
     numbers: &mut [u16],
     values: &mut [u64],
+    sums: &mut [u64],
     buf: &mut [u8],
     at: usize,
 ) -> usize
     requires { ⌜ n < 65536 ⌝ }
     ensures { λ r. ⌜ Added (now (buf .entry)) at
-        (callsText (least3 (now (tags .entry)) (now (numbers .entry)) (now (values .entry))) [] (now (x .entry))
+        (callsText (roomIn (now (tags .entry)) (now (numbers .entry)) (now (values .entry)) (now (sums .entry))) [] (now (x .entry))
         (sizesAt (now (p .entry)) 6 n)) (now (buf .exit)) r ⌝ }
 {
     let mut st = steps::start();
@@ -88,7 +90,7 @@ fn calls_into(
     while i < n {
         let size = little_endian::u32_from_le_bytes(p, 6 + 4 * i) as usize;
         let y = utils::part(x, from, size);
-        let t = one(st, y, tags, numbers, values, buf, to);
+        let t = one(st, y, tags, numbers, values, sums, buf, to);
         st = t.state;
         from += t.taken;
         to = t.at;
@@ -98,7 +100,7 @@ fn calls_into(
     if left.len() == 0 {
         return to;
     }
-    let t = one(st, left, tags, numbers, values, buf, to);
+    let t = one(st, left, tags, numbers, values, sums, buf, to);
     t.at
 }
 
@@ -109,6 +111,7 @@ pub fn calls(p: &[u8], buf: &mut [u8], at: usize) -> usize
     let mut tags = [0u64; MOST];
     let mut numbers = [0u16; MOST];
     let mut values = [0u64; MOST];
+    let mut sums = [0u64; 49152];
     let room = utils::lesser(little_endian::u32_from_le_bytes(p, 0) as usize, MOST);
     let n = little_endian::u16_from_le_bytes(p, 4) as usize;
     calls_into(
@@ -118,6 +121,7 @@ pub fn calls(p: &[u8], buf: &mut [u8], at: usize) -> usize
         &mut tags[0..room],
         &mut numbers[0..room],
         &mut values[0..room],
+        &mut sums[0..3 * room],
         buf,
         at,
     )

@@ -24,6 +24,7 @@ use def_wire::TimeOr;
 use records::DelaySinceLastReceiverReport;
 use records::PacketReceiptTimes;
 use records::ReceiverReferenceTime;
+use records::StatisticsSummary;
 
 // A length rule: it holds, or 7.
 fn rule(ok: bool, expected: usize, actual: usize) -> Checked
@@ -148,6 +149,20 @@ pub fn check_echoes(r: Reading, v: &[u8]) -> Checked
     }
 }
 
+// As type 6, for which the crate has no question.
+pub fn check_statistics(r: Reading, v: &[u8]) -> Checked
+    ensures { λ c. ⌜ c ≡ checkOf r Kind.Statistics (now (v .entry)) ⌝ }
+{
+    let t = type_of(v);
+    if t != StatisticsSummary::BLOCK_TYPE {
+        return other(t);
+    }
+    match r {
+        Reading::Standard => rule(v.len() == 40, 40, v.len()),
+        Reading::Crate => other(t),
+    }
+}
+
 // The same, asked as a kind. Port of: XrBlock::parse_into.
 pub fn check(r: Reading, k: Kind, v: &[u8]) -> Checked
     ensures { λ a. ⌜ a ≡ checkOf r k (now (v .entry)) ⌝ }
@@ -156,6 +171,7 @@ pub fn check(r: Reading, k: Kind, v: &[u8]) -> Checked
         Kind::Spans(g) => check_range(r, g, v),
         Kind::Clock => check_clock(r, v),
         Kind::Echoes => check_echoes(r, v),
+        Kind::Statistics => check_statistics(r, v),
     }
 }
 

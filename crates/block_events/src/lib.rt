@@ -9,8 +9,9 @@ ghost use Rattle.def_wire.specs.Block.{typeOf, blockLength, kindOf};
 ghost use Rattle.def_standard.specs.Standard.{numbersOf, entriesOf};
 ghost use Rattle.def_questions.specs.Questions.{least3};
 ghost use Rattle.def_portions.specs.Events.{blockEvents, from, rangedOf, listed, lostFault};
-ghost use Rattle.def_portions.specs.Lists.{tagPart, numberPart, valuePart, laid};
+ghost use Rattle.def_portions.specs.Lists.{tagPart, numberPart, valuePart, laid, roomIn};
 ghost use Rattle.event_lists.specs.Laid.{Laid};
+ghost use Rattle.block_events.specs.Pairs.{PairsLaid};
 ghost use Rattle.packet_receipt_time.specs.Pairs.{stepped};
 use def_portions::Event;
 use def_refusals::Answer;
@@ -59,6 +60,7 @@ pub fn count_block(v: &[u8]) -> usize
             Kind::Spans(g) => count_range(g, v),
             Kind::Clock => { if v.len() < 12 { 1 } else { 2 } }
             Kind::Echoes => 1 + dlrr::count(v),
+            Kind::Statistics => { if v.len() < 40 { 1 } else { 2 } }
         },
         KindOr::NoKind => 1,
     }
@@ -111,9 +113,8 @@ fn put_pairs(
 ) -> usize
     requires { ⌜ count ≤ length (words32 (drop 12 (now v))) ⌝ }
     requires { ⌜ n + count ≤ least3 (now tags) (now numbers) (now values) ⌝ }
-    ensures { λ r. ⌜ Laid (map Event.Pair (stepped step first count (words32 (drop 12 (now (v .entry)))))) n
-        (now (tags .entry)) (now (numbers .entry)) (now (values .entry)) (now (tags .exit)) (now (numbers .exit))
-        (now (values .exit)) r ⌝ }
+    ensures { λ r. ⌜ PairsLaid (stepped step first count (words32 (drop 12 (now (v .entry))))) n (now (tags .entry))
+        (now (numbers .entry)) (now (values .entry)) (now (tags .exit)) (now (numbers .exit)) (now (values .exit)) r ⌝ }
 {
     let mut left = count;
     let mut at: usize = 12;
@@ -161,13 +162,14 @@ fn put_range(
     tags: &mut [u64],
     numbers: &mut [u16],
     values: &mut [u64],
+    sums: &mut [u64],
     n: usize,
 ) -> usize
-    requires { ⌜ n + length (from 12 (now v) (rangedOf (now v) ∷ listed g (now v))) ≤ least3 (now tags)
-        (now numbers) (now values) ⌝ }
+    requires { ⌜ n + length (from 12 (now v) (rangedOf (now v) ∷ listed g (now v))) ≤ roomIn (now tags)
+        (now numbers) (now values) (now sums) ⌝ }
     ensures { λ r. ⌜ Laid (from 12 (now (v .entry)) (rangedOf (now (v .entry)) ∷ listed g (now (v .entry)))) n
-        (now (tags .entry)) (now (numbers .entry)) (now (values .entry)) (now (tags .exit)) (now (numbers .exit))
-        (now (values .exit)) r ⌝ }
+        (now (tags .entry)) (now (numbers .entry)) (now (values .entry)) (now (sums .entry)) (now (tags .exit)) (now (numbers .exit))
+        (now (values .exit)) (now (sums .exit)) r ⌝ }
 {
     if v.len() < 12 {
         return n;
@@ -178,6 +180,7 @@ fn put_range(
         tags,
         numbers,
         values,
+        sums,
         n,
         Event::Ranged(type_of(v), length_of(v), f),
     );
@@ -206,29 +209,72 @@ pub fn put_block(
     tags: &mut [u64],
     numbers: &mut [u16],
     values: &mut [u64],
+    sums: &mut [u64],
     n: usize,
 ) -> usize
-    requires { ⌜ n + length (blockEvents (now v)) ≤ least3 (now tags) (now numbers) (now values) ⌝ }
+    requires { ⌜ n + length (blockEvents (now v)) ≤ roomIn (now tags) (now numbers) (now values) (now sums) ⌝ }
     ensures { λ r. ⌜ Laid (blockEvents (now (v .entry))) n (now (tags .entry)) (now (numbers .entry))
-        (now (values .entry)) (now (tags .exit)) (now (numbers .exit)) (now (values .exit)) r ⌝ }
+        (now (values .entry)) (now (sums .entry)) (now (tags .exit)) (now (numbers .exit)) (now (values .exit)) (now (sums .exit)) r ⌝ }
 {
     let t = type_of(v);
     match records::kind_of(t) {
         KindOr::AKind(k) => match k {
-            Kind::Spans(g) => put_range(g, v, tags, numbers, values, n),
+            Kind::Spans(g) => put_range(g, v, tags, numbers, values, sums, n),
             Kind::Clock => {
-                let m = event_lists::put(tags, numbers, values, n, Event::Start(t, length_of(v)));
+                let m = event_lists::put(
+                    tags,
+                    numbers,
+                    values,
+                    sums,
+                    n,
+                    Event::Start(t, length_of(v)),
+                );
                 if v.len() < 12 {
                     return m;
                 }
                 let time = LongTime(utils::u64_from_be_bytes(v, 4));
-                event_lists::put(tags, numbers, values, m, Event::Time(time))
+                event_lists::put(tags, numbers, values, sums, m, Event::Time(time))
             }
             Kind::Echoes => {
-                let m = event_lists::put(tags, numbers, values, n, Event::Start(t, length_of(v)));
+                let m = event_lists::put(
+                    tags,
+                    numbers,
+                    values,
+                    sums,
+                    n,
+                    Event::Start(t, length_of(v)),
+                );
                 put_entries(v, dlrr::count(v), tags, values, m)
             }
+            Kind::Statistics => {
+                let m = event_lists::put(
+                    tags,
+                    numbers,
+                    values,
+                    sums,
+                    n,
+                    Event::Start(t, length_of(v)),
+                );
+                if v.len() < 40 {
+                    return m;
+                }
+                event_lists::put(
+                    tags,
+                    numbers,
+                    values,
+                    sums,
+                    m,
+                    Event::Summed(summary::summary_at(v)),
+                )
+            }
         },
-        KindOr::NoKind => event_lists::put(tags, numbers, values, n, Event::Start(t, length_of(v))),
+        KindOr::NoKind => event_lists::put(
+            tags,
+            numbers,
+            values,
+            sums,
+            n,
+            Event::Start(t, length_of(v)),
+        ),
     }
 }

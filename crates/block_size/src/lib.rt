@@ -3,7 +3,7 @@
 ghost use mathlib.Core.Path.{_≡_};
 ghost use Prim.Native.Nat.{_≤_};
 ghost use lib.ListN.{length, drop};
-ghost use Rattle.def_jobs.specs.Jobs.{low16, hasFields, isBlockJob};
+ghost use Rattle.def_jobs.specs.Jobs.{low16, hasFields, isFlags, hasSums, isBlockJob};
 ghost use Rattle.def_jobs.specs.Layout.{zerosBehind, blockBytes};
 ghost use Rattle.jobs.specs.Places.{jobOf};
 ghost use Rattle.block_size.specs.Judged.{judgedSize, hasWords};
@@ -34,6 +34,29 @@ fn has_words(body: &[u8]) -> bool
         return !word_scan::has_lost_run_low(utils::part(body, 10, body.len()));
     }
     false
+}
+
+// A specific byte that a summary may be written with: no reserved bit is set, and ToH is not 3.
+fn is_flags(flags: u8) -> bool
+    ensures { λ r. ⌜ r ≡ isFlags flags ⌝ }
+{
+    if flags % 8 != 0 {
+        return false;
+    }
+    flags / 8 % 4 != 3
+}
+
+// A summary's flags, a byte that is 0, and all its numbers.
+fn has_sums(body: &[u8]) -> bool
+    ensures { λ r. ⌜ r ≡ hasSums (jobOf 6 (now (body .entry))) ⌝ }
+{
+    if body.len() != 38 {
+        return false;
+    }
+    if body[1] != 0 {
+        return false;
+    }
+    is_flags(body[0])
 }
 
 // How many zero words the layout puts behind the words of a body of kind 1 or 2.
@@ -72,6 +95,7 @@ pub fn block_size(layout: Layout, kind: u16, body: &[u8]) -> usize
             },
             Kind::Clock => 12,
             Kind::Echoes => 4 + body.len() / 4 * 4,
+            Kind::Statistics => 40,
         },
         KindOr::NoKind => 0,
     }
@@ -107,6 +131,7 @@ pub fn judged_size(layout: Layout, kind: u16, body: &[u8]) -> usize
                     0
                 }
             }
+            Kind::Statistics => { if has_sums(body) { 40 } else { 0 } }
         },
         KindOr::NoKind => 0,
     }

@@ -20,6 +20,7 @@ use def_wire::Rle;
 use records::DelaySinceLastReceiverReport;
 use records::PacketReceiptTimes;
 use records::ReceiverReferenceTime;
+use records::StatisticsSummary;
 
 // A block's four header bytes, with so many bytes behind them (RFC 3611, 3).
 fn put_head(out: &mut [u8], at: usize, kind: u8, specific: u8, behind: usize) -> usize
@@ -127,6 +128,39 @@ fn write_echoes(body: &[u8], out: &mut [u8], at: usize) -> usize
     swap::swap32(body, 0, out, entries)
 }
 
+// So many 32-bit numbers of a summary.
+fn put_counts(body: &[u8], out: &mut [u8], at: usize) -> usize
+    requires { ⌜ (length (now body) ≡ 38) × (at + 24 ≤ length (now out)) ⌝ }
+    ensures { λ r. ⌜ Wrote (now (out .entry)) at (countsBytes (now (body .entry))) (now (out .exit)) r ⌝ }
+{
+    swap::put_number(body, 10, out, at);
+    swap::put_number(body, 14, out, at + 4);
+    swap::put_number(body, 18, out, at + 8);
+    swap::put_number(body, 22, out, at + 12);
+    swap::put_number(body, 26, out, at + 16);
+    swap::put_number(body, 30, out, at + 20);
+    at + 24
+}
+
+// A block of type 6: its flags and all its numbers (RFC 3611, 4.6). The Rust has none.
+fn write_sums(body: &[u8], out: &mut [u8], at: usize) -> usize
+    requires { ⌜ (length (now body) ≡ 38) × (at + 40 ≤ length (now out)) ⌝ }
+    ensures { λ r. ⌜ Wrote (now (out .entry)) at (sumsBlock (now (body .entry))) (now (out .exit)) r ⌝ }
+{
+    let ssrc = put_head(out, at, StatisticsSummary::BLOCK_TYPE, body[0], 36);
+    swap::put_number(body, 2, out, ssrc);
+    let begin = ssrc + 4;
+    swap::put_word(body, 6, out, begin);
+    let end = begin + 2;
+    swap::put_word(body, 8, out, end);
+    let hops = put_counts(body, out, end + 2);
+    out[hops] = body[34];
+    out[hops + 1] = body[35];
+    out[hops + 2] = body[36];
+    out[hops + 3] = body[37];
+    hops + 4
+}
+
 // The block that a good record asks for, where there is room for it; gives the index past it. Port of: the blocks of
 // mod.rs XrBuilder::write_into_unchecked.
 pub fn write_block(layout: Layout, kind: u16, body: &[u8], out: &mut [u8], at: usize) -> usize
@@ -143,6 +177,7 @@ pub fn write_block(layout: Layout, kind: u16, body: &[u8], out: &mut [u8], at: u
             },
             Kind::Clock => write_clock(body, out, at),
             Kind::Echoes => write_echoes(body, out, at),
+            Kind::Statistics => write_sums(body, out, at),
         },
         KindOr::NoKind => at,
     }

@@ -21,15 +21,18 @@ use Rattle.def_wire.specs.declared.Reading.the-variants.{Standard, Crate}
 use Rattle.def_wire.specs.declared.Ranged.{Ranged}
 use Rattle.def_wire.specs.declared.Ranged.the-variants.{Chunks, Times}
 use Rattle.def_wire.specs.declared.Kind.{Kind}
-use Rattle.def_wire.specs.declared.Kind.the-variants.{Spans, Clock, Echoes}
+use Rattle.def_wire.specs.declared.Kind.the-variants.{Spans, Clock, Echoes, Statistics}
 use Rattle.def_wire.specs.declared.KindOr.{KindOr}
 use Rattle.def_wire.specs.declared.KindOr.the-variants.{AKind, NoKind}
 use Rattle.def_wire.specs.declared.FieldsOr.{FieldsOr}
 use Rattle.def_wire.specs.declared.FieldsOr.the-variants.{Shown, NoneOf}
 use Rattle.def_wire.specs.declared.TimeOr.{TimeOr}
 use Rattle.def_wire.specs.declared.TimeOr.the-variants.{Time, NoTime}
+use Rattle.def_wire.specs.declared.SummaryOr.{SummaryOr}
+use Rattle.def_wire.specs.declared.SummaryOr.the-variants.{Stated, NoSummary}
 use Rattle.def_wire.specs.Packet.{placeOf, viewFrom, countOf}
-use Rattle.def_wire.specs.Block.{typeOf, blockLength, kindOf, checkOf, fieldsOf, timeOf}
+use Rattle.def_wire.specs.Block.{typeOf, blockLength, kindIn, checkOf, fieldsOf, timeOf}
+use Rattle.def_wire.specs.Summary.{summaryOf}
 use Rattle.def_questions.specs.Questions.{numbersShown, pairsShown, entriesShown}
 use Rattle.def_dump.specs.Lines.{
   refusedLine,
@@ -41,6 +44,7 @@ use Rattle.def_dump.specs.Lines.{
   pairsLine,
   entriesLine,
 }
+use Rattle.def_dump.specs.Summaries.{summaryLines}
 
 -- the most items that are shown of one list
 abbrev pub mostShown : ℕ
@@ -64,6 +68,10 @@ abbrev pub timeOr : TimeOr → List ℕ
 timeOr (Time t) = timeLine (t .0)
 timeOr (NoTime x) = refusedLine x
 
+abbrev pub summaryOr : SummaryOr → List ℕ
+summaryOr (Stated s) = summaryLines s
+summaryOr (NoSummary x) = refusedLine x
+
 -- the list of a block of types 1 to 3: numbers, or pairs
 abbrev pub rangedList : Reading → Ranged → List ℕ → List ℕ
 rangedList r (Chunks a) v = listOr numbersLine (numbersShown r a v)
@@ -74,20 +82,21 @@ unfoldable pub contentsOf : Reading → Kind → List ℕ → List ℕ
 contentsOf r (Spans g) v = fieldsOr (fieldsOf r g v) ++ rangedList r g v
 contentsOf r Clock v = timeOr (timeOf r v)
 contentsOf r Echoes v = listOr entriesLine (entriesShown r v)
+contentsOf r Statistics v = summaryOr (summaryOf r v)
 
 -- one `refused 7` in place of all this, where it is not
 abbrev pub unlessUnfit : Checked → List ℕ → List ℕ
 unlessUnfit Fine text = text
 unlessUnfit (Unfit x) text = refusedLine x
 
--- other types than 1 to 5 show type and length only
+-- of kinds that the reading does not know, type and length only
 abbrev pub kindText : Reading → KindOr → List ℕ → List ℕ
 kindText r (AKind k) v = unlessUnfit (checkOf r k v) (contentsOf r k v)
 kindText r NoKind v = []
 
 -- block k, of which v is the view: its line, and what stands behind it by its type
 unfoldable pub blockText : Reading → ℕ → List ℕ → List ℕ
-blockText r k v = blockLine k (typeOf v) (blockLength v) ++ kindText r (kindOf (typeOf v)) v
+blockText r k v = blockLine k (typeOf v) (blockLength v) ++ kindText r (kindIn r (typeOf v)) v
 
 -- n blocks of the packet s from block k on
 unfoldable pub blocksText : Reading → List ℕ → ℕ → ℕ → List ℕ

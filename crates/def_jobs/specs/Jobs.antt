@@ -14,13 +14,15 @@ use Rattle.def_refusals.specs.declared.Checked.the-variants.{Fine, Unfit}
 use Rattle.def_wire.specs.declared.Fields.{Fields}
 use Rattle.def_wire.specs.Bytes.{byteAt}
 use Rattle.def_wire.specs.declared.Ranged.the-variants.{Chunks, Times}
-use Rattle.def_wire.specs.declared.Kind.the-variants.{Spans, Clock, Echoes}
+use Rattle.def_wire.specs.declared.Kind.the-variants.{Spans, Clock, Echoes, Statistics}
 use Rattle.def_wire.specs.declared.KindOr.{KindOr}
 use Rattle.def_wire.specs.declared.KindOr.the-variants.{AKind, NoKind}
+use Rattle.def_wire.specs.declared.Sums.{Sums}
 use Rattle.def_wire.specs.Block.{lostRun, has, kindOf}
+use Rattle.def_wire.specs.Summary.{spread, byteSpread, tohIn, summaryFrom}
 use Rattle.def_standard.specs.Range.{rangeOf}
 use Rattle.def_standard.specs.Standard.{numbersOf, pairsOf, echoesOf}
-use Rattle.def_jobs.specs.Shown.{Record, reported, received, clocked, echoed, bare}
+use Rattle.def_jobs.specs.Shown.{Record, reported, received, clocked, echoed, summed, bare}
 
 abbrev pub le16 : List ℕ → ℕ → ℕ
 le16 s at = byteAt s at + byteAt s (at + 1) * 256
@@ -105,12 +107,36 @@ jobWords j = low16 (drop 10 (j .body))
 abbrev pub jobTimes : Job → List ℕ
 jobTimes j = low32 (drop 10 (j .body))
 
+-- kind 6: the block's specific byte (1), 0 (1), SSRC (4), begin (2), end (2), lost (4), duplicates (4), jitter (4 of 4),
+-- TTL or hop limit (4 of 1)
+abbrev pub jobFlags : Job → ℕ
+jobFlags j = byteAt (j .body) 0
+
+abbrev pub jobSums : Job → Sums
+jobSums j = record {
+  ssrc = le32 (j .body) 2;
+  begin = le16 (j .body) 6;
+  end = le16 (j .body) 8;
+  lost = le32 (j .body) 10;
+  duplicates = le32 (j .body) 14;
+  jitter = spread (le32 (j .body) 18) (le32 (j .body) 22) (le32 (j .body) 26) (le32 (j .body) 30);
+  hops = byteSpread (byteAt (j .body) 34) (byteAt (j .body) 35) (byteAt (j .body) 36) (byteAt (j .body) 37);
+}
+
+-- no reserved bit is set, and ToH is not 3
+abbrev pub isFlags : ℕ → Bool
+isFlags flags = eqb (flags % 8) 0 && not (eqb (tohIn flags) 3)
+
+abbrev pub hasSums : Job → Bool
+hasSums j = eqb (length (j .body)) 38 && (eqb (byteAt (j .body) 1) 0 && isFlags (jobFlags j))
+
 -- a record's kind is the type number of the block that it asks for; no word may be a run of ones of no length
 abbrev pub isBody : KindOr → Job → Bool
 isBody (AKind (Spans (Chunks a))) j = hasFields j 2 && not (has lostRun (jobWords j))
 isBody (AKind (Spans Times)) j = hasFields j 4
 isBody (AKind Clock) j = eqb (length (j .body)) 8
 isBody (AKind Echoes) j = eqb (length (j .body) % 12) 0
+isBody (AKind Statistics) j = hasSums j
 isBody NoKind j = false
 
 unfoldable pub isBlockJob : Job → Bool
@@ -131,6 +157,7 @@ askedAs (AKind (Spans (Chunks a))) j = reported a (jobFields j) (numbersOf (rang
 askedAs (AKind (Spans Times)) j = received (jobFields j) (pairsOf (rangeOf (jobFields j)) (jobTimes j))
 askedAs (AKind Clock) j = clocked (record { 0 = le64 (j .body) 0 })
 askedAs (AKind Echoes) j = echoed (echoesOf (low32 (j .body)))
+askedAs (AKind Statistics) j = summed (summaryFrom (jobFlags j) (jobSums j))
 askedAs NoKind j = bare
 
 unfoldable pub askedOf : Job → Record

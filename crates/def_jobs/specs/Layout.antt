@@ -7,13 +7,15 @@ use lib.Dec.{eqb}
 use Rattle.def_wire.specs.declared.Fields.{Fields}
 use Rattle.def_wire.specs.Bytes.{two, four, eight}
 use Rattle.def_wire.specs.declared.Ranged.the-variants.{Chunks, Times}
-use Rattle.def_wire.specs.declared.Kind.the-variants.{Spans, Clock, Echoes}
+use Rattle.def_wire.specs.declared.Kind.the-variants.{Spans, Clock, Echoes, Statistics}
 use Rattle.def_wire.specs.declared.KindOr.{KindOr}
 use Rattle.def_wire.specs.declared.KindOr.the-variants.{AKind, NoKind}
-use Rattle.def_wire.specs.Block.{rleType, receiptType, clockType, echoType, kindOf}
+use Rattle.def_wire.specs.declared.Sums.{Sums}
+use Rattle.def_wire.specs.Block.{rleType, receiptType, clockType, echoType, summaryType, kindOf}
 use Rattle.def_jobs.specs.declared.Layout.{Layout}
 use Rattle.def_jobs.specs.declared.Layout.the-variants.{Plain, Careful}
 use Rattle.def_jobs.specs.Jobs.{Job, low32, jobFields, jobWords, jobTimes, senderOf, askedPadding, le64}
+use Rattle.def_jobs.specs.Jobs.{jobFlags, jobSums}
 
 -- the bytes of each number in turn
 abbrev pub bytesOf : (ℕ → List ℕ) → List ℕ → List ℕ
@@ -45,11 +47,19 @@ withFields type f rest = head type (f .thinning) (8 + length rest)
 abbrev pub wordsBytes : Layout → List ℕ → List ℕ
 wordsBytes layout ws = bytesOf two ws ++ replicate (2 * zerosBehind layout ws) 0
 
+-- a summary's numbers, all of them, whatever the flags say
+abbrev pub sumsBytes : Sums → List ℕ
+sumsBytes n =
+    four (n .ssrc) ++ (two (n .begin) ++ (two (n .end) ++ (four (n .lost) ++ (four (n .duplicates)
+    ++ (four (n .jitter .least) ++ (four (n .jitter .most) ++ (four (n .jitter .mean) ++ (four (n .jitter .deviation)
+    ++ (n .hops .least ∷ n .hops .most ∷ n .hops .mean ∷ n .hops .deviation ∷ [])))))))))
+
 abbrev pub bytesAs : KindOr → Layout → Job → List ℕ
 bytesAs (AKind (Spans (Chunks a))) layout j = withFields (rleType a) (jobFields j) (wordsBytes layout (jobWords j))
 bytesAs (AKind (Spans Times)) layout j = withFields receiptType (jobFields j) (bytesOf four (jobTimes j))
 bytesAs (AKind Clock) layout j = head clockType 0 8 ++ eight (le64 (j .body) 0)
 bytesAs (AKind Echoes) layout j = head echoType 0 (length (j .body)) ++ bytesOf four (low32 (j .body))
+bytesAs (AKind Statistics) layout j = head summaryType (jobFlags j) 36 ++ sumsBytes (jobSums j)
 bytesAs NoKind layout j = []
 
 unfoldable pub blockBytes : Layout → Job → List ℕ

@@ -5,7 +5,7 @@
 -- A writer's contract is def_refusals' `Listed (packetOf layout list)`: 11 comes last, and bytes behind the packet
 -- stay.
 use Prim.Native.Nat.{ℕ, zero, suc, _-_}
-use mathlib.Core.Bool.{Bool, true, false, cond, not}
+use mathlib.Core.Bool.{Bool, true, false, cond, not, _||_}
 use mathlib.Core.List.{List}
 use lib.ListN.{length}
 use lib.Dec.{ltb}
@@ -16,7 +16,7 @@ use Rattle.def_refusals.specs.Answers.{Or, shown, refused, onShown, onFine, the
 use Rattle.def_wire.specs.declared.Reading.{Reading}
 use Rattle.def_wire.specs.declared.Reading.the-variants.{Standard, Crate}
 use Rattle.def_wire.specs.Packet.{viewOf}
-use Rattle.def_jobs.specs.Shown.{Record, recordOf, sameRecord}
+use Rattle.def_jobs.specs.Shown.{Record, reported, received, clocked, echoed, summed, bare, recordOf, sameRecord}
 use Rattle.def_jobs.specs.declared.Layout.{Layout}
 use Rattle.def_jobs.specs.declared.Layout.the-variants.{Plain, Careful}
 use Rattle.def_jobs.specs.Jobs.{Job, jobsOf, jobsFault}
@@ -39,11 +39,23 @@ sizeFault blocks bytes =
 abbrev pub shownIn : Reading → List ℕ → ℕ → Or Record
 shownIn r s k = onShown (viewOf r s k) (recordOf r)
 
--- what the crate shows, against what the standard shows: a refusal misleads nobody
+-- what the crate shows, against what the standard shows: a refusal misleads nobody, and neither does a block of which
+-- it shows type and length only
+abbrev pub isBare : Record → Bool
+isBare (reported a f l) = false
+isBare (received f l) = false
+isBare (clocked t) = false
+isBare (echoed l) = false
+isBare (summed s) = false
+isBare bare = true
+
+abbrev pub sameShown : Record → Or Record → Bool
+sameShown c (refused x) = false
+sameShown c (shown d) = sameRecord c d
+
 abbrev pub differs : Or Record → Or Record → Bool
 differs (refused x) standard = false
-differs (shown c) (refused x) = true
-differs (shown c) (shown d) = not (sameRecord c d)
+differs (shown c) standard = not (isBare c || sameShown c standard)
 
 -- an old reader would be misled by block k
 abbrev pub misleads : List ℕ → ℕ → Bool

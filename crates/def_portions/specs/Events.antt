@@ -19,17 +19,18 @@ use Rattle.def_refusals.specs.Answers.{thenCheck}
 use Rattle.def_wire.specs.declared.Ranged.{Ranged}
 use Rattle.def_wire.specs.declared.Ranged.the-variants.{Chunks, Times}
 use Rattle.def_wire.specs.declared.Kind.{Kind}
-use Rattle.def_wire.specs.declared.Kind.the-variants.{Spans, Clock, Echoes}
+use Rattle.def_wire.specs.declared.Kind.the-variants.{Spans, Clock, Echoes, Statistics}
 use Rattle.def_wire.specs.declared.KindOr.{KindOr}
 use Rattle.def_wire.specs.declared.KindOr.the-variants.{AKind, NoKind}
 use Rattle.def_wire.specs.Bytes.{byteAt}
 use Rattle.def_wire.specs.Packet.{versionOf, isPadded, announcedOf, ssrcOf, lengthAt, part}
 use Rattle.def_wire.specs.Block.{typeOf, blockLength, fieldsAt, wordsAt, timeAt, kindOf, standardRule, lostRun}
 use Rattle.def_wire.specs.Block.{wordRule}
+use Rattle.def_wire.specs.Summary.{summaryAt}
 use Rattle.def_standard.specs.Standard.{standardNumbers, standardPairs, entriesOf}
 use Rattle.def_portions.specs.declared.Event.{Event}
 use Rattle.def_portions.specs.declared.Event.the-variants.{Header, Start, Ranged as RangedStart, Number, Pair}
-use Rattle.def_portions.specs.declared.Event.the-variants.{Entry, Time, End}
+use Rattle.def_portions.specs.declared.Event.the-variants.{Entry, Time, Summed, End}
 
 -- the events of some bytes, and whether these bytes show a refusal, which ends them
 pub record Course : Type 0 where
@@ -96,6 +97,7 @@ unfoldable pub kindEvents : KindOr → List ℕ → List Event
 kindEvents (AKind (Spans g)) v = from 12 v (rangedOf v ∷ listed g v)
 kindEvents (AKind Clock) v = startOf v ∷ from 12 v (Time (timeAt v) ∷ [])
 kindEvents (AKind Echoes) v = startOf v ∷ map Entry (entriesOf v)
+kindEvents (AKind Statistics) v = startOf v ∷ from 40 v (Summed (summaryAt v) ∷ [])
 kindEvents NoKind v = startOf v ∷ []
 
 abbrev pub blockEvents : List ℕ → List Event
@@ -112,6 +114,7 @@ clearPart (AKind (Spans (Chunks a))) v = take (12 + 2 * clearWords (wordsAt v)) 
 clearPart (AKind (Spans Times)) v = v
 clearPart (AKind Clock) v = v
 clearPart (AKind Echoes) v = v
+clearPart (AKind Statistics) v = v
 clearPart NoKind v = v
 
 -- 7, where that word has come

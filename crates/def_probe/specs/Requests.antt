@@ -23,6 +23,8 @@ use Rattle.def_wire.specs.declared.FieldsOr.{FieldsOr}
 use Rattle.def_wire.specs.declared.FieldsOr.the-variants.{Shown, NoneOf}
 use Rattle.def_wire.specs.declared.TimeOr.{TimeOr}
 use Rattle.def_wire.specs.declared.TimeOr.the-variants.{Time, NoTime}
+use Rattle.def_wire.specs.declared.SummaryOr.{SummaryOr}
+use Rattle.def_wire.specs.declared.SummaryOr.the-variants.{Stated, NoSummary}
 use Rattle.def_wire.specs.Bytes.{byteAt}
 use Rattle.def_wire.specs.Packet.{countOf, ssrcOf, locate, part, viewOf}
 use Rattle.def_wire.specs.Block.{headerData, fieldsAt, rleOf}
@@ -31,7 +33,7 @@ use Rattle.def_standard.specs.declared.Chunk.the-variants.{Null, Skip, Run, Vec
 use Rattle.def_standard.specs.Chunks.{wordBytes}
 use Rattle.def_standard.specs.Range.{rangeOf}
 use Rattle.def_standard.specs.Standard.{standardWords}
-use Rattle.def_questions.specs.Packets.{pairsAsked, entriesAsked, timeAsked}
+use Rattle.def_questions.specs.Packets.{pairsAsked, entriesAsked, timeAsked, summaryAsked}
 use Rattle.def_questions.specs.ByNumber.{numbersBy, wordsBy, fieldsBy, onRle, notServed}
 use Rattle.def_cursor.specs.declared.Cursor.{Cursor}
 use Rattle.def_cursor.specs.declared.Stretch.{Stretch}
@@ -45,6 +47,7 @@ use Rattle.def_portions.specs.Calls.{Call, callOf}
 use Rattle.def_dump.specs.EventLines.{eventLines, givenLine}
 use Rattle.def_dump.specs.Lines.{refusalLine, fieldsLine, timeLine, numbersLine, wordsLine, pairsLine, entriesLine}
 use Rattle.def_dump.specs.Lines.{takenLine, wordLine, blocksLine, viewLine, packetLine}
+use Rattle.def_dump.specs.Summaries.{summaryLines}
 use Rattle.def_dump.specs.Dump.{dumpText}
 
 -- text lines, which a line `.` follows; or the request is none that is served, and the run ends with the line `cut`
@@ -253,6 +256,17 @@ portionsText p = callsText (listRoom p 0) [] (drop (sizesEnd p) p) (sizesAt p 6 
 unfoldable pub portionsReply : List ℕ → Reply
 portionsReply p = atLeast 6 p (atLeast (sizesEnd p) p (told (portionsText p)))
 
+-- 13: block (4), packet. The four lines of a summary; of the standard reading
+abbrev pub summaryTold : SummaryOr → List ℕ
+summaryTold (Stated s) = summaryLines s
+summaryTold (NoSummary x) = refusalLine x
+
+unfoldable pub summaryText : List ℕ → List ℕ
+summaryText p = summaryTold (summaryAsked Standard (drop 4 p) (le32 p 0))
+
+unfoldable pub summaryReply : List ℕ → Reply
+summaryReply p = atLeast 4 p (told (summaryText p))
+
 -- by the kind; any other is not served
 unfoldable pub answerTo : ℕ → List ℕ → Reply
 answerTo kind p =
@@ -268,4 +282,5 @@ answerTo kind p =
     (cond (eqb kind 10) (marksReply p)
     (cond (eqb kind 11) (viewReply p)
     (cond (eqb kind 12) (portionsReply p)
-    (cond (eqb kind 14) (numbersReply p) cut))))))))))))
+    (cond (eqb kind 13) (summaryReply p)
+    (cond (eqb kind 14) (numbersReply p) cut)))))))))))))

@@ -9,8 +9,11 @@ use Rattle.def_wire.specs.declared.FieldsOr.{FieldsOr}
 use Rattle.def_wire.specs.declared.FieldsOr.the-variants.{NoneOf}
 use Rattle.def_wire.specs.declared.TimeOr.{TimeOr}
 use Rattle.def_wire.specs.declared.TimeOr.the-variants.{NoTime}
+use Rattle.def_wire.specs.declared.SummaryOr.{SummaryOr}
+use Rattle.def_wire.specs.declared.SummaryOr.the-variants.{NoSummary}
 use Rattle.def_wire.specs.Packet.{viewOf}
 use Rattle.def_wire.specs.Block.{fieldsOf, timeOf}
+use Rattle.def_wire.specs.Summary.{summaryOf}
 use Rattle.def_standard.specs.declared.Receipt.{Receipt}
 use Rattle.def_standard.specs.declared.Echo.{Echo}
 use Rattle.def_questions.specs.Questions.{wordsShown, numbersShown, pairsShown, entriesShown}
@@ -40,3 +43,10 @@ onViewTime (refused x) f = NoTime x
 
 unfoldable pub timeAsked : Reading → List ℕ → ℕ → TimeOr
 timeAsked r s k = onViewTime (viewOf r s k) (timeOf r)
+
+abbrev pub onViewSummary : Or (List ℕ) → (List ℕ → SummaryOr) → SummaryOr
+onViewSummary (shown v) f = f v
+onViewSummary (refused x) f = NoSummary x
+
+unfoldable pub summaryAsked : Reading → List ℕ → ℕ → SummaryOr
+summaryAsked r s k = onViewSummary (viewOf r s k) (summaryOf r)

@@ -4,7 +4,8 @@
 -- length field.
 --     headerData    the four header bytes
 --     fieldsAt      SSRC, begin, end, thinning of types 1 to 3
---     kindOf        the kind of a type number: types 1 to 5 have one
+--     kindOf        the kind of a type number: types 1 to 6 have one
+--     kindIn        the same of a reading: the crate knows types 1 to 5
 --     wordsAt       the chunk words of types 1 and 2
 --     fitness       whether a block of a kind is fit to be read: refusal 7
 --     checkOf       the block is of the asked kind (10) and fit to be read (7)
@@ -25,7 +26,7 @@ use Rattle.def_wire.specs.declared.Rle.the-variants.{Loss, Duplicate}
 use Rattle.def_wire.specs.declared.Ranged.{Ranged}
 use Rattle.def_wire.specs.declared.Ranged.the-variants.{Chunks, Times}
 use Rattle.def_wire.specs.declared.Kind.{Kind}
-use Rattle.def_wire.specs.declared.Kind.the-variants.{Spans, Clock, Echoes}
+use Rattle.def_wire.specs.declared.Kind.the-variants.{Spans, Clock, Echoes, Statistics}
 use Rattle.def_wire.specs.declared.RleOr.{RleOr}
 use Rattle.def_wire.specs.declared.RleOr.the-variants.{AnRle, NoRle}
 use Rattle.def_wire.specs.declared.RangedOr.{RangedOr}
@@ -67,7 +68,7 @@ wordsAt v = words16 (drop 12 v)
 abbrev pub timeAt : List ℕ → LongTime
 timeAt v = record { 0 = be64 v 4 }
 
--- the block types (RFC 3611, 4.1 to 4.5)
+-- the block types (RFC 3611, 4.1 to 4.6)
 abbrev pub lossType : ℕ
 lossType = 1
 
@@ -83,6 +84,9 @@ clockType = 4
 abbrev pub echoType : ℕ
 echoType = 5
 
+abbrev pub summaryType : ℕ
+summaryType = 6
+
 -- each kind's type number
 abbrev pub rleType : Rle → ℕ
 rleType Loss = lossType
@@ -96,6 +100,7 @@ abbrev pub kindType : Kind → ℕ
 kindType (Spans g) = rangedType g
 kindType Clock = clockType
 kindType Echoes = echoType
+kindType Statistics = summaryType
 
 -- the kind of a type number, where it has one
 unfoldable pub rleOf : ℕ → RleOr
@@ -110,10 +115,25 @@ rangedOf t = orTimes t (rleOf t)
 
 abbrev pub orMore : ℕ → RangedOr → KindOr
 orMore t (ARange g) = AKind (Spans g)
-orMore t NoRange = cond (eqb t clockType) (AKind Clock) (cond (eqb t echoType) (AKind Echoes) NoKind)
+orMore t NoRange =
+    cond (eqb t clockType) (AKind Clock)
+    (cond (eqb t echoType) (AKind Echoes)
+    (cond (eqb t summaryType) (AKind Statistics) NoKind))
 
 unfoldable pub kindOf : ℕ → KindOr
 kindOf t = orMore t (rangedOf t)
+
+-- the kinds of which a reading shows more than type and length: the crate has no type 6
+abbrev pub knownTo : Reading → KindOr → KindOr
+knownTo Standard kd = kd
+knownTo Crate (AKind (Spans g)) = AKind (Spans g)
+knownTo Crate (AKind Clock) = AKind Clock
+knownTo Crate (AKind Echoes) = AKind Echoes
+knownTo Crate (AKind Statistics) = NoKind
+knownTo Crate NoKind = NoKind
+
+abbrev pub kindIn : Reading → ℕ → KindOr
+kindIn r t = knownTo r (kindOf t)
 
 -- a length rule: it holds, or refusal 7 with the expected and the actual length
 abbrev pub rule : Bool → ℕ → ℕ → Checked
@@ -124,12 +144,13 @@ rule false expected actual = Unfit (BadBlockLength expected actual)
 abbrev pub nextFit : ℕ → ℕ
 nextFit l = l + (12 - (l - 4) % 12) % 12
 
--- standard: types 1 to 3 need L ≥ 12, type 4 needs L = 12, type 5 needs L − 4 divisible by 12 (RULES, "Standard
--- reading")
+-- standard: types 1 to 3 need L ≥ 12, type 4 needs L = 12, type 5 needs L − 4 divisible by 12, type 6 needs L = 40
+-- (RULES, "Standard reading")
 unfoldable pub standardRule : Kind → ℕ → Checked
 standardRule (Spans g) l = rule (leb 12 l) 12 l
 standardRule Clock l = rule (eqb l 12) 12 l
 standardRule Echoes l = rule (eqb ((l - 4) % 12) 0) (nextFit l) l
+standardRule Statistics l = rule (eqb l 40) 40 l
 
 -- the word of a run of ones of no length (RFC 3611, 4.1.1): one that its sender's encoder wrote when it had lost its
 -- place
@@ -151,15 +172,17 @@ wordRule (Spans (Chunks a)) l v = clearRule l (wordsAt v)
 wordRule (Spans Times) l v = Fine
 wordRule Clock l v = Fine
 wordRule Echoes l v = Fine
+wordRule Statistics l v = Fine
 
 -- crate: types 1 and 2 need L ≥ 12, type 3 needs nothing, type 4 needs left ≥ 12, type 5 needs left ≥ 16 and then L
 -- divisible
--- by 16 (RULES, "Crate reading")
+-- by 16; it has no question for type 6, so that is 10 with 6 (RULES, "Crate reading")
 unfoldable pub crateRule : Kind → ℕ → ℕ → Checked
 crateRule (Spans (Chunks a)) l left = rule (leb 12 l) 12 l
 crateRule (Spans Times) l left = Fine
 crateRule Clock l left = rule (leb 12 left) 12 left
 crateRule Echoes l left = cond (leb 16 left) (rule (eqb (l % 16) 0) (l + l % 16) left) (rule false 16 left)
+crateRule Statistics l left = Unfit (OtherType summaryType)
 
 -- whether the block v, asked as a kind, is fit to be read
 unfoldable pub fitness : Reading → Kind → List ℕ → Checked

@@ -27,11 +27,12 @@ pub enum Ranged {
     Times,
 }
 
-// Types 1 to 5, which have a length rule. Other types show type and length only.
+// Types 1 to 6, which have a length rule. Other types show type and length only.
 pub enum Kind {
     Spans(Ranged),
     Clock,
     Echoes,
+    Statistics,
 }
 
 // What a number asks for, where it is the type number of one.
@@ -75,4 +76,65 @@ pub struct ReceiptTime(pub u32);
 pub enum TimeOr {
     Time(LongTime),
     NoTime(Refusal),
+}
+
+// Four numbers of a Statistics Summary block (RFC 3611, 4.6): of jitter, 32 bits each; of TTL or hop limit, a byte each.
+pub struct Spread {
+    pub least: u32,
+    pub most: u32,
+    pub mean: u32,
+    pub deviation: u32,
+}
+
+pub struct ByteSpread {
+    pub least: u8,
+    pub most: u8,
+    pub mean: u8,
+    pub deviation: u8,
+}
+
+// All numbers of such a block as they stand, whatever its flags say.
+pub struct Sums {
+    pub ssrc: u32,
+    pub begin: u16,
+    pub end: u16,
+    pub lost: u32,
+    pub duplicates: u32,
+    pub jitter: Spread,
+    pub hops: ByteSpread,
+}
+
+// A number, or none where its flag is clear: which is another answer than 0.
+pub enum CountOr {
+    Counted(u32),
+    Uncounted,
+}
+
+pub enum JitterOr {
+    Jitter(Spread),
+    NoJitter,
+}
+
+// What the two bits ToH say: 0 no numbers, 1 of TTL, 2 of hop limit; 3 is no number of RFC 3611's, and has none.
+pub enum HopsOr {
+    NoHops,
+    Ttl(ByteSpread),
+    HopLimit(ByteSpread),
+    Unknown,
+}
+
+// What a Statistics Summary block shows.
+pub struct Summary {
+    pub ssrc: u32,
+    pub begin: u16,
+    pub end: u16,
+    pub lost: CountOr,
+    pub duplicates: CountOr,
+    pub jitter: JitterOr,
+    pub hops: HopsOr,
+}
+
+pub enum SummaryOr {
+    Stated(Summary),
+    NoSummary(Refusal),
 }

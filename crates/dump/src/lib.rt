@@ -5,11 +5,12 @@
 ghost use mathlib.Core.Path.{_≡_};
 ghost use Rattle.def_wire.specs.Packet.{countOf};
 ghost use Rattle.def_wire.specs.Block.{checkOf, fieldsOf, timeOf};
+ghost use Rattle.def_wire.specs.Summary.{summaryOf};
 ghost use Rattle.def_questions.specs.Questions.{numbersShown, pairsShown, entriesShown};
 ghost use Rattle.def_text.specs.Buffer.{Added};
 ghost use Rattle.def_dump.specs.Lines.{numbersLine, pairsLine, entriesLine};
 ghost use Rattle.def_dump.specs.Dump.{listOr, fieldsOr, timeOr, contentsOf, unlessUnfit, blockText, blocksText};
-ghost use Rattle.def_dump.specs.Dump.{readingText, dumpText};
+ghost use Rattle.def_dump.specs.Dump.{summaryOr, readingText, dumpText};
 use def_refusals::Answer;
 use def_refusals::Checked;
 use def_wire::FieldsOr;
@@ -18,6 +19,7 @@ use def_wire::KindOr;
 use def_wire::Ranged;
 use def_wire::Reading;
 use def_wire::Rle;
+use def_wire::SummaryOr;
 use def_wire::TimeOr;
 
 // The longest packet that is dumped.
@@ -120,6 +122,15 @@ fn entries_or(r: Reading, v: &[u8], buf: &mut [u8], at: usize) -> usize
     }
 }
 
+fn summary_or(r: Reading, v: &[u8], buf: &mut [u8], at: usize) -> usize
+    ensures { λ n. ⌜ Added (now (buf .entry)) at (summaryOr (summaryOf r (now (v .entry)))) (now (buf .exit)) n ⌝ }
+{
+    match summary::summary(r, v) {
+        SummaryOr::Stated(s) => summary_lines::summary_lines(buf, at, s),
+        SummaryOr::NoSummary(x) => lines::refused_line(buf, at, x),
+    }
+}
+
 // What stands behind the line of a block of types 1 to 3 that is fit to be read: its fields and its list.
 fn ranged(r: Reading, g: Ranged, v: &[u8], buf: &mut [u8], at: usize) -> usize
     ensures { λ n. ⌜ Added (now (buf .entry)) at (contentsOf r (Kind.Spans g) (now (v .entry)))
@@ -140,6 +151,7 @@ fn contents(r: Reading, k: Kind, v: &[u8], buf: &mut [u8], at: usize) -> usize
         Kind::Spans(g) => ranged(r, g, v, buf, at),
         Kind::Clock => time_or(r, v, buf, at),
         Kind::Echoes => entries_or(r, v, buf, at),
+        Kind::Statistics => summary_or(r, v, buf, at),
     }
 }
 
@@ -154,13 +166,14 @@ fn contents_or(r: Reading, k: Kind, v: &[u8], buf: &mut [u8], at: usize) -> usiz
     }
 }
 
-// Block k, of which v is the view: its line, and what it shows. Other types than 1 to 5 show type and length only.
+// Block k, of which v is the view: its line, and what it shows. Of types that the reading does not know, type and length
+// only.
 fn one_block(r: Reading, k: usize, v: &[u8], buf: &mut [u8], at: usize) -> usize
     ensures { λ n. ⌜ Added (now (buf .entry)) at (blockText r k (now (v .entry))) (now (buf .exit)) n ⌝ }
 {
     let h = xr::header_data(v);
     let n = lines::block_line(buf, at, k, xr::block_type(h), xr::block_length(h));
-    match records::kind_of(xr::block_type(h)) {
+    match records::kind_in(r, xr::block_type(h)) {
         KindOr::AKind(kind) => contents_or(r, kind, v, buf, n),
         KindOr::NoKind => n,
     }

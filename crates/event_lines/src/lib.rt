@@ -8,6 +8,7 @@ ghost use Rattle.event_lists.specs.Parts.{eventsIn};
 use def_portions::Event;
 use def_standard::Echo;
 use def_wire::Fields;
+use def_wire::Summary;
 
 // A word and two numbers.
 fn two(buf: &mut [u8], at: usize, word: &[u8], a: u64, b: u64) -> usize
@@ -54,6 +55,15 @@ fn entry_line(buf: &mut [u8], at: usize, e: Echo) -> usize
     print::line_end(buf, m)
 }
 
+// `summary `, and the four lines of the dump with `; ` between them.
+fn summary_line(buf: &mut [u8], at: usize, s: Summary) -> usize
+    ensures { λ r. ⌜ Added (now (buf .entry)) at (eventLine (Event.Summed s)) (now (buf .exit)) r ⌝ }
+{
+    let n = print::text(buf, at, b"summary ");
+    let m = summary_lines::summary_parts(buf, n, b"; ", s);
+    print::line_end(buf, m)
+}
+
 // `end`.
 fn end_line(buf: &mut [u8], at: usize) -> usize
     ensures { λ r. ⌜ Added (now (buf .entry)) at (eventLine Event.End) (now (buf .exit)) r ⌝ }
@@ -77,26 +87,31 @@ pub fn event_line(buf: &mut [u8], at: usize, e: Event) -> usize
         }
         Event::Entry(x) => entry_line(buf, at, x),
         Event::Time(t) => lines::time_line(buf, at, t.0),
+        Event::Summed(s) => summary_line(buf, at, s),
         Event::End => end_line(buf, at),
     }
 }
 
-// The lines of the first so many events of three lists.
+// The lines of the first so many events of four lists.
 pub fn event_lines(
     buf: &mut [u8],
     at: usize,
     tags: &[u64],
     numbers: &[u16],
     values: &[u64],
+    sums: &[u64],
     count: usize,
 ) -> usize
     ensures { λ r. ⌜ Added (now (buf .entry)) at
-        (eventLines (eventsIn (now (tags .entry)) (now (numbers .entry)) (now (values .entry)) count))
+        (eventLines (eventsIn (now (tags .entry)) (now (numbers .entry)) (now (values .entry)) (now (sums .entry)) count))
         (now (buf .exit)) r ⌝ }
 {
     let stop = utils::lesser(
         count,
-        utils::lesser(tags.len(), utils::lesser(numbers.len(), values.len())),
+        utils::lesser(
+            utils::lesser(tags.len(), utils::lesser(numbers.len(), values.len())),
+            sums.len() / 3,
+        ),
     );
     let mut to = at;
     let mut i: usize = 0;
@@ -104,7 +119,14 @@ pub fn event_lines(
         to = event_line(
             buf,
             to,
-            event_lists::event_of(tags[i], numbers[i], values[i]),
+            event_lists::event_of(
+                tags[i],
+                numbers[i],
+                values[i],
+                sums[3 * i],
+                sums[3 * i + 1],
+                sums[3 * i + 2],
+            ),
         );
         i += 1;
     }

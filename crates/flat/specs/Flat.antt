@@ -24,8 +24,12 @@ use Rattle.def_wire.specs.declared.FieldsOr.{FieldsOr}
 use Rattle.def_wire.specs.declared.FieldsOr.the-variants.{Shown, NoneOf}
 use Rattle.def_wire.specs.declared.TimeOr.{TimeOr}
 use Rattle.def_wire.specs.declared.TimeOr.the-variants.{Time, NoTime}
+use Rattle.def_wire.specs.declared.Sums.{Sums}
+use Rattle.def_wire.specs.declared.SummaryOr.{SummaryOr}
+use Rattle.def_wire.specs.declared.SummaryOr.the-variants.{Stated, NoSummary}
 use Rattle.def_wire.specs.Packet.{ssrcOf, nextPlace, viewFrom}
 use Rattle.def_wire.specs.Block.{typeOf, specificOf, blockLength}
+use Rattle.def_wire.specs.Summary.{spread, byteSpread, flagsOf, sumsOf}
 use Rattle.def_standard.specs.declared.Chunk.{Chunk}
 use Rattle.def_standard.specs.declared.Chunk.the-variants.{Null, Skip, Run, Vector}
 use Rattle.def_cursor.specs.declared.Stretch.{Stretch}
@@ -38,6 +42,7 @@ use Rattle.flat.specs.declared.FlatFields.{FlatFields}
 use Rattle.states.specs.declared.Followed.{Followed}
 use Rattle.flat.specs.declared.FlatBlock.{FlatBlock}
 use Rattle.flat.specs.declared.FlatFollowed.{FlatFollowed}
+use Rattle.flat.specs.declared.FlatSummary.{FlatSummary}
 
 -- 0 asks for the standard reading, anything else for the crate's
 unfoldable pub readingOf : ℕ → Reading
@@ -155,3 +160,40 @@ followedRow f r =
 
 unfoldable pub flatFollowed : Followed → FlatFollowed
 flatFollowed r = followedRow (flatChecked (r .refusal)) r
+
+-- a summary: its flags say which numbers are there; those that are absent are 0
+abbrev pub summaryRow : Flat → ℕ → Sums → FlatSummary
+summaryRow a flags n = record {
+  code = a .code;
+  first = a .first;
+  second = a .second;
+  ssrc = n .ssrc;
+  lost = n .lost;
+  duplicates = n .duplicates;
+  jitter_min = n .jitter .least;
+  jitter_max = n .jitter .most;
+  jitter_mean = n .jitter .mean;
+  jitter_deviation = n .jitter .deviation;
+  begin = n .begin;
+  end = n .end;
+  flags = flags;
+  hops_min = n .hops .least;
+  hops_max = n .hops .most;
+  hops_mean = n .hops .mean;
+  hops_deviation = n .hops .deviation;
+}
+
+abbrev pub noSums : Sums
+noSums = record {
+  ssrc = 0;
+  begin = 0;
+  end = 0;
+  lost = 0;
+  duplicates = 0;
+  jitter = spread 0 0 0 0;
+  hops = byteSpread 0 0 0 0;
+}
+
+unfoldable pub flatSummary : SummaryOr → FlatSummary
+flatSummary (Stated s) = summaryRow (found 0 0) (flagsOf s) (sumsOf s)
+flatSummary (NoSummary x) = summaryRow (flatRefusal x) 0 noSums

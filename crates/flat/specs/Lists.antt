@@ -11,7 +11,7 @@ use Rattle.def_standard.specs.declared.Echo.{Echo}
 use Rattle.def_questions.specs.Questions.{least3}
 use Rattle.def_cursor.specs.declared.Cursor.{Cursor}
 use Rattle.def_cursor.specs.Cursor.{advanceBy, filledBy, onViewAdvanced, onViewFilled}
-use Rattle.def_portions.specs.Lists.{tagPart, numberPart, valuePart, laid}
+use Rattle.def_portions.specs.Lists.{tagPart, numberPart, valuePart, laid, laidSums, roomIn}
 use Rattle.states.specs.declared.Portions.{Portions}
 use Rattle.states.specs.Call.{followedOf, givenOf}
 use Rattle.flat.specs.declared.Flat.{Flat}
@@ -44,8 +44,9 @@ pub record FlatStretched (s : List ℕ) (k t : ℕ) (c : Cursor) (budget : ℕ) 
   pub filled : out′ ≡ onViewFilled (viewOf Standard s k) (λ v. filledBy t v c budget out) out
 
 -- states' `Following`
-pub record FlatFollowing (st : Portions) (x t u v : List ℕ) (r : FlatFollowed) (t′ u′ v′ : List ℕ) : Type 0 where
-  pub answer : r ≡ flatFollowed (followedOf st x (least3 t u v))
-  pub tags : t′ ≡ laid tagPart (givenOf st x (least3 t u v)) 0 t
-  pub numbers : u′ ≡ laid numberPart (givenOf st x (least3 t u v)) 0 u
-  pub values : v′ ≡ laid valuePart (givenOf st x (least3 t u v)) 0 v
+pub record FlatFollowing (st : Portions) (x t u v w : List ℕ) (r : FlatFollowed) (t′ u′ v′ w′ : List ℕ) : Type 0 where
+  pub answer : r ≡ flatFollowed (followedOf st x (roomIn t u v w))
+  pub tags : t′ ≡ laid tagPart (givenOf st x (roomIn t u v w)) 0 t
+  pub numbers : u′ ≡ laid numberPart (givenOf st x (roomIn t u v w)) 0 u
+  pub values : v′ ≡ laid valuePart (givenOf st x (roomIn t u v w)) 0 v
+  pub sums : w′ ≡ laidSums (givenOf st x (roomIn t u v w)) 0 w

@@ -1,16 +1,21 @@
 // The library's answers as numbers, for callers in other languages: each a flat copy of an answer.
 ghost use mathlib.Core.Path.{_≡_};
 ghost use Rattle.flat.specs.Flat.{readingOf, chunkAsked, flatRefusal, flatOf, flatLocated, flatFields};
-ghost use Rattle.flat.specs.Flat.{flatTime, flatStretch, flatChunk, flatChecked, flatFollowed};
+ghost use Rattle.flat.specs.Flat.{flatTime, flatStretch, flatChunk, flatChecked, flatFollowed, flatSummary};
+ghost use Rattle.flat.specs.Flat.{summaryRow, noSums};
 use def_cursor::Advanced;
 use def_refusals::Answer;
 use def_refusals::Checked;
 use def_refusals::Refusal;
 use def_standard::Chunk;
+use def_wire::ByteSpread;
 use def_wire::FieldsOr;
 use def_wire::Located;
 use def_wire::LongTime;
 use def_wire::Reading;
+use def_wire::Spread;
+use def_wire::SummaryOr;
+use def_wire::Sums;
 use def_wire::TimeOr;
 use states::Followed;
 use states::Portions;
@@ -70,6 +75,29 @@ pub struct FlatFollowed {
     pub taken: u64,
     pub events: u64,
     pub state: Portions,
+}
+
+// The same with what a Statistics Summary block shows beside it, 0 where it is refused. The flags say which numbers are
+// there, as in the block's specific byte: L 128, D 64, J 32, ToH 16 and 8; a number that is absent is 0.
+#[repr(C)]
+pub struct FlatSummary {
+    pub code: u32,
+    pub first: u64,
+    pub second: u64,
+    pub ssrc: u32,
+    pub lost: u32,
+    pub duplicates: u32,
+    pub jitter_min: u32,
+    pub jitter_max: u32,
+    pub jitter_mean: u32,
+    pub jitter_deviation: u32,
+    pub begin: u16,
+    pub end: u16,
+    pub flags: u8,
+    pub hops_min: u8,
+    pub hops_max: u8,
+    pub hops_mean: u8,
+    pub hops_deviation: u8,
 }
 
 // The reading that a number asks for.
@@ -272,5 +300,73 @@ pub fn followed(r: Followed) -> FlatFollowed
         taken: r.taken as u64,
         events: r.events as u64,
         state: s,
+    }
+}
+
+// An answer with a summary's flags and numbers beside it.
+fn summary_row(f: Flat, flags: u8, n: Sums) -> FlatSummary
+    ensures { λ r. ⌜ r ≡ summaryRow f flags n ⌝ }
+{
+    let j = n.jitter;
+    let h = n.hops;
+    FlatSummary {
+        code: f.code,
+        first: f.first,
+        second: f.second,
+        ssrc: n.ssrc,
+        lost: n.lost,
+        duplicates: n.duplicates,
+        jitter_min: j.least,
+        jitter_max: j.most,
+        jitter_mean: j.mean,
+        jitter_deviation: j.deviation,
+        begin: n.begin,
+        end: n.end,
+        flags,
+        hops_min: h.least,
+        hops_max: h.most,
+        hops_mean: h.mean,
+        hops_deviation: h.deviation,
+    }
+}
+
+fn no_sums() -> Sums
+    ensures { λ r. ⌜ r ≡ noSums ⌝ }
+{
+    Sums {
+        ssrc: 0,
+        begin: 0,
+        end: 0,
+        lost: 0,
+        duplicates: 0,
+        jitter: Spread {
+            least: 0,
+            most: 0,
+            mean: 0,
+            deviation: 0,
+        },
+        hops: ByteSpread {
+            least: 0,
+            most: 0,
+            mean: 0,
+            deviation: 0,
+        },
+    }
+}
+
+// A summary.
+pub fn summary(a: SummaryOr) -> FlatSummary
+    ensures { λ f. ⌜ f ≡ flatSummary a ⌝ }
+{
+    match a {
+        SummaryOr::Stated(s) => {
+            let f = Flat {
+                code: 0,
+                first: 0,
+                second: 0,
+            };
+            summary_row(f, stats::flags_of(s), stats::sums_of(s))
+        }
+        SummaryOr::NoSummary(x) => summary_row(refusal(x), 0, no_sums()),
     }
 }

@@ -17,7 +17,7 @@ use Rattle.def_refusals.specs.declared.Checked.{Checked}
 use Rattle.def_refusals.specs.declared.Checked.the-variants.{Fine, Unfit}
 use Rattle.def_wire.specs.declared.Fields.{Fields}
 use Rattle.def_wire.specs.declared.Ranged.the-variants.{Chunks, Times}
-use Rattle.def_wire.specs.declared.Kind.the-variants.{Spans, Clock, Echoes}
+use Rattle.def_wire.specs.declared.Kind.the-variants.{Spans, Clock, Echoes, Statistics}
 use Rattle.def_wire.specs.declared.KindOr.{KindOr}
 use Rattle.def_wire.specs.declared.KindOr.the-variants.{AKind, NoKind}
 use Rattle.def_wire.specs.Block.{kindOf}
@@ -67,6 +67,7 @@ misledAs (AKind (Spans Times)) j behind =
     misledTimes (jobFields j) (length (jobTimes j)) (length (jobTimes j) + behind / 4)
 misledAs (AKind Clock) j behind = false
 misledAs (AKind Echoes) j behind = misledEchoes (length (j .body) / 12) behind
+misledAs (AKind Statistics) j behind = false
 misledAs NoKind j behind = false
 
 -- a bad record asks for no block

@@ -212,6 +212,7 @@ pub fn misled(kind: u16, body: &[u8], behind: usize) -> bool
             },
             Kind::Clock => false,
             Kind::Echoes => misled_echoes(body.len() / 12, behind),
+            Kind::Statistics => false,
         },
         KindOr::NoKind => false,
     }

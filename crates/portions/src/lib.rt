@@ -1,10 +1,10 @@
 // The standard reading of a packet that comes in portions, some bytes at a time (RULES, "Packets in portions"): a
-// state of fixed size goes in by value and comes back, and a call's events go into three lent lists. Nothing of the
+// state of fixed size goes in by value and comes back, and a call's events go into four lent lists. Nothing of the
 // packet is kept but the bytes of an item that is not complete.
 ghost use mathlib.Core.Path.{_≡_};
 ghost use Prim.Native.Nat.{_+_, _≤_, _<_};
 ghost use lib.ListN.{length, drop};
-ghost use Rattle.def_questions.specs.Questions.{least3};
+ghost use Rattle.def_portions.specs.Lists.{roomIn};
 ghost use Rattle.def_portions.specs.Calls.{roomFault};
 ghost use Rattle.states.specs.Steps.{after, shows, shownBy, settled, settledEvents, endIn};
 ghost use Rattle.event_lists.specs.Laid.{Laid};
@@ -22,11 +22,14 @@ use states::Settled;
 // can give one byte at a time and is never refused as 11.
 pub const MOST_EVENTS: usize = 16384;
 
-// The least of three lists' lengths.
-fn room_in(tags: &[u64], numbers: &[u16], values: &[u64]) -> usize
-    ensures { λ r. ⌜ r ≡ least3 (now (tags .entry)) (now (numbers .entry)) (now (values .entry)) ⌝ }
+// How many events four lists have room for: the fourth has three numbers for each.
+fn room_in(tags: &[u64], numbers: &[u16], values: &[u64], sums: &[u64]) -> usize
+    ensures { λ r. ⌜ r ≡ roomIn (now (tags .entry)) (now (numbers .entry)) (now (values .entry)) (now (sums .entry)) ⌝ }
 {
-    utils::lesser(utils::lesser(tags.len(), numbers.len()), values.len())
+    utils::lesser(
+        utils::lesser(utils::lesser(tags.len(), numbers.len()), values.len()),
+        sums.len() / 3,
+    )
 }
 
 // Stores the events of a complete item, the packet's end not among them, and answers the index past them.
@@ -35,11 +38,12 @@ fn put_item(
     tags: &mut [u64],
     numbers: &mut [u16],
     values: &mut [u64],
+    sums: &mut [u64],
     n: usize,
 ) -> usize
-    requires { ⌜ n + length (shownBy st) ≤ least3 (now tags) (now numbers) (now values) ⌝ }
-    ensures { λ r. ⌜ Laid (shownBy st) n (now (tags .entry)) (now (numbers .entry)) (now (values .entry))
-        (now (tags .exit)) (now (numbers .exit)) (now (values .exit)) r ⌝ }
+    requires { ⌜ n + length (shownBy st) ≤ roomIn (now tags) (now numbers) (now values) (now sums) ⌝ }
+    ensures { λ r. ⌜ Laid (shownBy st) n (now (tags .entry)) (now (numbers .entry)) (now (values .entry)) (now (sums .entry))
+        (now (tags .exit)) (now (numbers .exit)) (now (values .exit)) (now (sums .exit)) r ⌝ }
 {
     if st.item == states::WORD {
         let k = st.known;
@@ -55,7 +59,7 @@ fn put_item(
         );
     }
     match steps::lone(st) {
-        Lone::One(e) => event_lists::put(tags, numbers, values, n, e),
+        Lone::One(e) => event_lists::put(tags, numbers, values, sums, n, e),
         Lone::Nothing => n,
     }
 }
@@ -66,14 +70,15 @@ fn put_end(
     tags: &mut [u64],
     numbers: &mut [u16],
     values: &mut [u64],
+    sums: &mut [u64],
     n: usize,
 ) -> usize
-    requires { ⌜ n + length (endIn st) ≤ least3 (now tags) (now numbers) (now values) ⌝ }
-    ensures { λ r. ⌜ Laid (endIn st) n (now (tags .entry)) (now (numbers .entry)) (now (values .entry))
-        (now (tags .exit)) (now (numbers .exit)) (now (values .exit)) r ⌝ }
+    requires { ⌜ n + length (endIn st) ≤ roomIn (now tags) (now numbers) (now values) (now sums) ⌝ }
+    ensures { λ r. ⌜ Laid (endIn st) n (now (tags .entry)) (now (numbers .entry)) (now (values .entry)) (now (sums .entry))
+        (now (tags .exit)) (now (numbers .exit)) (now (values .exit)) (now (sums .exit)) r ⌝ }
 {
     if st.item == states::OVER {
-        return event_lists::put(tags, numbers, values, n, Event::End);
+        return event_lists::put(tags, numbers, values, sums, n, Event::End);
     }
     n
 }
@@ -84,12 +89,13 @@ fn put_settled(
     tags: &mut [u64],
     numbers: &mut [u16],
     values: &mut [u64],
+    sums: &mut [u64],
     n: usize,
 ) -> Settled
-    requires { ⌜ n + length (settledEvents st) ≤ least3 (now tags) (now numbers) (now values) ⌝ }
+    requires { ⌜ n + length (settledEvents st) ≤ roomIn (now tags) (now numbers) (now values) (now sums) ⌝ }
     ensures { λ r. ⌜ r .state ≡ settled st ⌝ }
-    ensures { λ r. ⌜ Laid (settledEvents st) n (now (tags .entry)) (now (numbers .entry)) (now (values .entry))
-        (now (tags .exit)) (now (numbers .exit)) (now (values .exit)) (r .events) ⌝ }
+    ensures { λ r. ⌜ Laid (settledEvents st) n (now (tags .entry)) (now (numbers .entry)) (now (values .entry)) (now (sums .entry))
+        (now (tags .exit)) (now (numbers .exit)) (now (values .exit)) (now (sums .exit)) (r .events) ⌝ }
 {
     if st.missing != 0 {
         return Settled {
@@ -99,9 +105,9 @@ fn put_settled(
     }
     match steps::fault(st) {
         Checked::Fine => {
-            let past = put_item(st, tags, numbers, values, n);
+            let past = put_item(st, tags, numbers, values, sums, n);
             let next = steps::passed(st);
-            let end = put_end(next, tags, numbers, values, past);
+            let end = put_end(next, tags, numbers, values, sums, past);
             Settled {
                 state: next,
                 events: end,
@@ -239,16 +245,17 @@ fn put_whole(
     tags: &mut [u64],
     numbers: &mut [u16],
     values: &mut [u64],
+    sums: &mut [u64],
     n: usize,
 ) -> Turn
-    requires { ⌜ n + length (shows s (drop at (now x))) ≤ least3 (now tags) (now numbers) (now values) ⌝ }
+    requires { ⌜ n + length (shows s (drop at (now x))) ≤ roomIn (now tags) (now numbers) (now values) (now sums) ⌝ }
     requires { ⌜ WholeAt s (now x) at l ⌝ }
-    ensures { λ r. ⌜ TurnStored s (now (x .entry)) at n (now (tags .entry)) (now (numbers .entry)) (now (values .entry)) r
-        (now (tags .exit)) (now (numbers .exit)) (now (values .exit)) ⌝ }
+    ensures { λ r. ⌜ TurnStored s (now (x .entry)) at n (now (tags .entry)) (now (numbers .entry)) (now (values .entry)) (now (sums .entry)) r
+        (now (tags .exit)) (now (numbers .exit)) (now (values .exit)) (now (sums .exit)) ⌝ }
 {
     let next = steps::next_block(s.known, utils::above(s.behind, l - 4));
-    let past = block_events::put_block(utils::part(x, at, l), tags, numbers, values, n);
-    let all = put_end(next, tags, numbers, values, past);
+    let past = block_events::put_block(utils::part(x, at, l), tags, numbers, values, sums, n);
+    let all = put_end(next, tags, numbers, values, sums, past);
     Turn {
         state: next,
         events: all,
@@ -263,15 +270,16 @@ fn put_some(
     tags: &mut [u64],
     numbers: &mut [u16],
     values: &mut [u64],
+    sums: &mut [u64],
     n: usize,
 ) -> Turn
-    requires { ⌜ n + length (shows s (drop at (now x))) ≤ least3 (now tags) (now numbers) (now values) ⌝ }
+    requires { ⌜ n + length (shows s (drop at (now x))) ≤ roomIn (now tags) (now numbers) (now values) (now sums) ⌝ }
     requires { ⌜ (s .missing ≡ 0 → ⊥) × (at < length (now x)) ⌝ }
-    ensures { λ r. ⌜ TurnStored s (now (x .entry)) at n (now (tags .entry)) (now (numbers .entry)) (now (values .entry)) r
-        (now (tags .exit)) (now (numbers .exit)) (now (values .exit)) ⌝ }
+    ensures { λ r. ⌜ TurnStored s (now (x .entry)) at n (now (tags .entry)) (now (numbers .entry)) (now (values .entry)) (now (sums .entry)) r
+        (now (tags .exit)) (now (numbers .exit)) (now (values .exit)) (now (sums .exit)) ⌝ }
 {
     let m = utils::lesser(s.missing, x.len() - at);
-    let r = put_settled(steps::hold(s, x, at, m), tags, numbers, values, n);
+    let r = put_settled(steps::hold(s, x, at, m), tags, numbers, values, sums, n);
     let next = r.state;
     Turn {
         state: next,
@@ -287,18 +295,19 @@ fn put_turn(
     tags: &mut [u64],
     numbers: &mut [u16],
     values: &mut [u64],
+    sums: &mut [u64],
     n: usize,
 ) -> Turn
-    requires { ⌜ n + length (shows s (drop at (now x))) ≤ least3 (now tags) (now numbers) (now values) ⌝ }
+    requires { ⌜ n + length (shows s (drop at (now x))) ≤ roomIn (now tags) (now numbers) (now values) (now sums) ⌝ }
     requires { ⌜ (s .missing ≡ 0 → ⊥) × (at < length (now x)) ⌝ }
-    ensures { λ r. ⌜ TurnStored s (now (x .entry)) at n (now (tags .entry)) (now (numbers .entry)) (now (values .entry)) r
-        (now (tags .exit)) (now (numbers .exit)) (now (values .exit)) ⌝ }
+    ensures { λ r. ⌜ TurnStored s (now (x .entry)) at n (now (tags .entry)) (now (numbers .entry)) (now (values .entry)) (now (sums .entry)) r
+        (now (tags .exit)) (now (numbers .exit)) (now (values .exit)) (now (sums .exit)) ⌝ }
 {
     let l = whole_block(s, x, at);
     if l != 0 {
-        return put_whole(s, x, at, l, tags, numbers, values, n);
+        return put_whole(s, x, at, l, tags, numbers, values, sums, n);
     }
-    put_some(s, x, at, tags, numbers, values, n)
+    put_some(s, x, at, tags, numbers, values, sums, n)
 }
 
 // Stores the events of some bytes into lists that have room for them.
@@ -308,11 +317,12 @@ fn store(
     tags: &mut [u64],
     numbers: &mut [u16],
     values: &mut [u64],
+    sums: &mut [u64],
 ) -> Settled
-    requires { ⌜ length (shows st (now x)) ≤ least3 (now tags) (now numbers) (now values) ⌝ }
+    requires { ⌜ length (shows st (now x)) ≤ roomIn (now tags) (now numbers) (now values) (now sums) ⌝ }
     ensures { λ r. ⌜ r .state ≡ after st (now (x .entry)) ⌝ }
     ensures { λ r. ⌜ Laid (shows st (now (x .entry))) 0 (now (tags .entry)) (now (numbers .entry))
-        (now (values .entry)) (now (tags .exit)) (now (numbers .exit)) (now (values .exit)) (r .events) ⌝ }
+        (now (values .entry)) (now (sums .entry)) (now (tags .exit)) (now (numbers .exit)) (now (values .exit)) (now (sums .exit)) (r .events) ⌝ }
 {
     let mut at: usize = 0;
     let mut n: usize = 0;
@@ -324,7 +334,7 @@ fn store(
                 events: n,
             };
         }
-        let r = put_turn(s, x, at, tags, numbers, values, n);
+        let r = put_turn(s, x, at, tags, numbers, values, sums, n);
         s = r.state;
         n = r.events;
         at += r.taken;
@@ -428,13 +438,14 @@ pub fn follow(
     tags: &mut [u64],
     numbers: &mut [u16],
     values: &mut [u64],
+    sums: &mut [u64],
 ) -> Followed
-    ensures { λ r. ⌜ Following st (now (x .entry)) (now (tags .entry)) (now (numbers .entry)) (now (values .entry)) r
-        (now (tags .exit)) (now (numbers .exit)) (now (values .exit)) ⌝ }
+    ensures { λ r. ⌜ Following st (now (x .entry)) (now (tags .entry)) (now (numbers .entry)) (now (values .entry)) (now (sums .entry)) r
+        (now (tags .exit)) (now (numbers .exit)) (now (values .exit)) (now (sums .exit)) ⌝ }
 {
-    match call_fault(st, x, room_in(tags, numbers, values)) {
+    match call_fault(st, x, room_in(tags, numbers, values, sums)) {
         Checked::Fine => {
-            let r = store(st, x, tags, numbers, values);
+            let r = store(st, x, tags, numbers, values, sums);
             let s = r.state;
             Followed {
                 state: s,

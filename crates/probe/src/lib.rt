@@ -11,6 +11,7 @@ ghost use Rattle.def_probe.specs.Requests.{numbersText, wordsText, pairsText, e
 ghost use Rattle.def_probe.specs.Requests.{wordsReply, numbersReply, shownText, shownReply, stretchText, stretchReply};
 ghost use Rattle.def_probe.specs.Requests.{writtenText, writtenReply, madeText, madeReply, parsedText, parsedReply};
 ghost use Rattle.def_probe.specs.Requests.{marksText, marksReply, viewText, viewReply, portionsReply};
+ghost use Rattle.def_probe.specs.Requests.{summaryText, summaryReply};
 ghost use Rattle.probe.specs.Replied.{Replied, beginsWell};
 use def_cursor::Cursor;
 use def_jobs::Layout;
@@ -191,6 +192,12 @@ fn viewed(p: &[u8], buf: &mut [u8], at: usize) -> usize
     ask::viewed(reading(p), behind(p, 5), number(p, 1), buf, at)
 }
 
+fn summed(p: &[u8], buf: &mut [u8], at: usize) -> usize
+    ensures { λ n. ⌜ Added (now (buf .entry)) at (summaryText (now (p .entry))) (now (buf .exit)) n ⌝ }
+{
+    ask::summed(Reading::Standard, behind(p, 4), number(p, 0), buf, at)
+}
+
 // Kind 2, by the asked type.
 fn typed(t: u8, p: &[u8], buf: &mut [u8], at: usize) -> Told
     ensures { λ r. ⌜ Replied (now (buf .entry)) at (typedReply t (now (p .entry))) (now (buf .exit)) r ⌝ }
@@ -336,6 +343,16 @@ fn portions_asked(p: &[u8], buf: &mut [u8], at: usize) -> Told
     served(ask_portions::calls(p, buf, at))
 }
 
+// Kind 13: a summary.
+fn summary_asked(p: &[u8], buf: &mut [u8], at: usize) -> Told
+    ensures { λ r. ⌜ Replied (now (buf .entry)) at (summaryReply (now (p .entry))) (now (buf .exit)) r ⌝ }
+{
+    if 4 <= p.len() {
+        return served(summed(p, buf, at));
+    }
+    cut(at)
+}
+
 // The answer to a request of a kind.
 pub fn answer(kind: u8, p: &[u8], buf: &mut [u8], at: usize) -> Told
     ensures { λ r. ⌜ Added (now (buf .entry)) at (replyText (answerTo kind (now (p .entry))))
@@ -355,6 +372,7 @@ pub fn answer(kind: u8, p: &[u8], buf: &mut [u8], at: usize) -> Told
         10 => marks_asked(p, buf, at),
         11 => view_asked(p, buf, at),
         12 => portions_asked(p, buf, at),
+        13 => summary_asked(p, buf, at),
         14 => numbers_asked(p, buf, at),
         _ => cut(at),
     }

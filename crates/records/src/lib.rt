@@ -1,17 +1,19 @@
 // The block records, each with its type number as a constant of its type and a constructor beside it, and the kind of
 // a type number: what every crate that speaks of a block's type takes it from. Port of: the BLOCK_TYPE constants of
 // loss_rle.rs, duplicate_rle.rs, packet_receipt_time.rs, receiver_reference_time.rs, dlrr.rs; differs: the trait with
-// a constant is a constant of each record.
+// a constant is a constant of each record. The Rust has no type 6.
 ghost use mathlib.Core.Path.{_≡_};
-ghost use Rattle.def_wire.specs.Block.{rleType, rangedType, kindType, rleOf, rangedOf, kindOf};
+ghost use Rattle.def_wire.specs.Block.{rleType, rangedType, kindType, rleOf, rangedOf, kindOf, kindIn};
 use def_wire::Fields;
 use def_wire::Kind;
 use def_wire::KindOr;
 use def_wire::LongTime;
 use def_wire::Ranged;
 use def_wire::RangedOr;
+use def_wire::Reading;
 use def_wire::Rle;
 use def_wire::RleOr;
+use def_wire::Summary;
 
 // Which packets were heard (RFC 3611, 4.1).
 pub struct LossRle {
@@ -88,6 +90,21 @@ impl DelaySinceLastReceiverReport {
     }
 }
 
+// Loss, duplicates, jitter and hops in numbers (RFC 3611, 4.6).
+pub struct StatisticsSummary {
+    pub summary: Summary,
+}
+
+impl StatisticsSummary {
+    pub const BLOCK_TYPE: u8 = 6;
+
+    pub fn new(summary: Summary) -> Self
+        ensures { λ r. ⌜ r .summary ≡ summary ⌝ }
+    {
+        StatisticsSummary { summary }
+    }
+}
+
 // The type number of a kind.
 pub fn rle_type(a: Rle) -> u8
     ensures { λ r. ⌜ r ≡ rleType a ⌝ }
@@ -114,6 +131,7 @@ pub fn kind_type(k: Kind) -> u8
         Kind::Spans(g) => ranged_type(g),
         Kind::Clock => ReceiverReferenceTime::BLOCK_TYPE,
         Kind::Echoes => DelaySinceLastReceiverReport::BLOCK_TYPE,
+        Kind::Statistics => StatisticsSummary::BLOCK_TYPE,
     }
 }
 
@@ -156,7 +174,26 @@ pub fn kind_of(t: u8) -> KindOr
             if t == DelaySinceLastReceiverReport::BLOCK_TYPE {
                 return KindOr::AKind(Kind::Echoes);
             }
+            if t == StatisticsSummary::BLOCK_TYPE {
+                return KindOr::AKind(Kind::Statistics);
+            }
             KindOr::NoKind
+        }
+    }
+}
+
+// The same of a reading: the crate has no type 6.
+pub fn kind_in(r: Reading, t: u8) -> KindOr
+    ensures { λ a. ⌜ a ≡ kindIn r t ⌝ }
+{
+    let kind = kind_of(t);
+    match r {
+        Reading::Standard => kind,
+        Reading::Crate => {
+            if t == StatisticsSummary::BLOCK_TYPE {
+                return KindOr::NoKind;
+            }
+            kind
         }
     }
 }

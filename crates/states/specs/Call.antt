@@ -2,7 +2,7 @@
 -- def_portions says of the bytes, for states that calls gave, is in `claims`.
 --     callFault      the refusal of a call that takes nothing: one that stays, 19, 11
 --     followedOf     the answer
---     Following      the contract: the answer, and what the three lent lists then hold
+--     Following      the contract: the answer, and what the four lent lists then hold
 use Prim.Native.Nat.{ℕ, _+_, _-_, min}
 use mathlib.Core.Path.{_≡_}
 use mathlib.Core.Bool.{cond, _&&_}
@@ -14,11 +14,10 @@ use Rattle.def_refusals.specs.declared.Checked.{Checked}
 use Rattle.def_refusals.specs.declared.Checked.the-variants.{Fine, Unfit}
 use Rattle.def_refusals.specs.Answers.{thenCheck}
 use Rattle.def_wire.specs.Bytes.{four}
-use Rattle.def_questions.specs.Questions.{least3}
 use Rattle.def_portions.specs.declared.Event.{Event}
 use Rattle.def_portions.specs.Events.{need}
 use Rattle.def_portions.specs.Calls.{roomFault}
-use Rattle.def_portions.specs.Lists.{tagPart, numberPart, valuePart, laid}
+use Rattle.def_portions.specs.Lists.{tagPart, numberPart, valuePart, laid, laidSums, roomIn}
 use Rattle.states.specs.declared.Portions.{Portions}
 use Rattle.states.specs.Steps.{head, low32, heldOver, goodLength, faultOf, after, shows}
 use Rattle.states.specs.declared.Followed.{Followed}
@@ -64,8 +63,9 @@ givenBy (Unfit y) st x = []
 unfoldable pub givenOf : Portions → List ℕ → ℕ → List Event
 givenOf st x room = givenBy (callFault st x room) st x
 
-pub record Following (st : Portions) (x t u v : List ℕ) (r : Followed) (t′ u′ v′ : List ℕ) : Type 0 where
-  pub answer : r ≡ followedOf st x (least3 t u v)
-  pub tags : t′ ≡ laid tagPart (givenOf st x (least3 t u v)) 0 t
-  pub numbers : u′ ≡ laid numberPart (givenOf st x (least3 t u v)) 0 u
-  pub values : v′ ≡ laid valuePart (givenOf st x (least3 t u v)) 0 v
+pub record Following (st : Portions) (x t u v w : List ℕ) (r : Followed) (t′ u′ v′ w′ : List ℕ) : Type 0 where
+  pub answer : r ≡ followedOf st x (roomIn t u v w)
+  pub tags : t′ ≡ laid tagPart (givenOf st x (roomIn t u v w)) 0 t
+  pub numbers : u′ ≡ laid numberPart (givenOf st x (roomIn t u v w)) 0 u
+  pub values : v′ ≡ laid valuePart (givenOf st x (roomIn t u v w)) 0 v
+  pub sums : w′ ≡ laidSums (givenOf st x (roomIn t u v w)) 0 w

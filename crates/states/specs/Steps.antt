@@ -14,24 +14,28 @@ use lib.Dec.{eqb}
 use Rattle.def_refusals.specs.declared.Checked.{Checked}
 use Rattle.def_refusals.specs.declared.Checked.the-variants.{Fine, Unfit}
 use Rattle.def_wire.specs.declared.Kind.{Kind}
-use Rattle.def_wire.specs.declared.Kind.the-variants.{Spans, Clock, Echoes}
+use Rattle.def_wire.specs.declared.Kind.the-variants.{Spans, Clock, Echoes, Statistics}
 use Rattle.def_wire.specs.declared.KindOr.{KindOr}
 use Rattle.def_wire.specs.declared.KindOr.the-variants.{AKind, NoKind}
 use Rattle.def_wire.specs.declared.Fields.{Fields}
+use Rattle.def_wire.specs.declared.Sums.{Sums}
+use Rattle.def_wire.specs.declared.Summary.{Summary}
 use Rattle.def_wire.specs.Bytes.{four, eight}
 use Rattle.def_wire.specs.Packet.{announcedOf}
 use Rattle.def_wire.specs.Block.{typeOf, specificOf, blockLength, fieldsAt, kindOf, receiptType, clearRule}
+use Rattle.def_wire.specs.Summary.{spread, byteSpread, summaryFrom}
 use Rattle.def_standard.specs.Chunks.{coversOf, valuesIn}
 use Rattle.def_standard.specs.Range.{rangeOf, numberOf}
 use Rattle.def_standard.specs.Standard.{receipt}
 use Rattle.def_crate.specs.Sequence.{movedBy}
 use Rattle.def_portions.specs.declared.Event.{Event}
 use Rattle.def_portions.specs.declared.Event.the-variants.{Header, Start, Ranged as RangedStart, Number, Pair}
-use Rattle.def_portions.specs.declared.Event.the-variants.{Entry, Time, End}
+use Rattle.def_portions.specs.declared.Event.the-variants.{Entry, Time, Summed, End}
 use Rattle.def_portions.specs.Events.{headFault, blockFault}
 use Rattle.range.specs.Inside.{insideCount}
 use Rattle.range.specs.Steps.{stepOf}
 use Rattle.ones.specs.Along.{along}
+use Rattle.states.specs.declared.Kept.{Kept}
 use Rattle.states.specs.declared.Known.{Known}
 use Rattle.states.specs.declared.Portions.{Portions}
 use Rattle.states.specs.declared.Lone.{Lone}
@@ -72,9 +76,22 @@ skipped = 9
 abbrev pub over : ℕ
 over = 10
 
+abbrev pub sums : ℕ
+sums = 11
+
+abbrev pub hops : ℕ
+hops = 12
+
+abbrev pub kept : ℕ → ℕ → ℕ → ℕ → Kept
+kept a b c d = record { first = a; second = b; third = c; fourth = d }
+
+abbrev pub knownWith : ℕ → ℕ → ℕ → ℕ → ℕ → Kept → Known
+knownWith announced b w next inside x =
+    record { announced = announced; block = b; whose = w; next = next; inside = inside; kept = x }
+
+-- outside a summary nothing is kept
 abbrev pub known : ℕ → ℕ → ℕ → ℕ → ℕ → Known
-known announced b w next inside =
-    record { announced = announced; block = b; whose = w; next = next; inside = inside }
+known announced b w next inside = knownWith announced b w next inside (kept 0 0 0 0)
 
 -- an item of which so many bytes are missing
 abbrev pub state : ℕ → ℕ → ℕ → ℕ → ℕ → Known → Portions
@@ -143,6 +160,7 @@ abbrev pub openedBy : KindOr → Known → ℕ → ℕ → Portions
 openedBy (AKind (Spans g)) k rest behind = opened k rest behind fields 8
 openedBy (AKind Clock) k rest behind = opened k rest behind clock 8
 openedBy (AKind Echoes) k rest behind = opened k rest behind whose 4
+openedBy (AKind Statistics) k rest behind = opened k rest behind sums 8
 openedBy NoKind k rest behind = opened k rest behind skipped rest
 
 unfoldable pub inBlock : ℕ → ℕ → ℕ → Portions
@@ -169,9 +187,36 @@ thinningIn k = specificOf (four (k .block)) % 16
 abbrev pub moved : Known → ℕ → Known
 moved k n = known (k .announced) (k .block) 0 (movedBy n (thinningIn k) (k .next)) (k .inside - n)
 
+-- eight bytes of a summary more
+abbrev pub summing : Known → ℕ → Known
+summing k h =
+    knownWith (k .announced) (k .block) 0 0 0 (kept (k .kept .second) (k .kept .third) (k .kept .fourth) h)
+
+-- a summary's numbers: those of four times eight bytes, and of the last four
+abbrev pub sumsIn : Kept → ℕ → Sums
+sumsIn x h = record {
+  ssrc = high32 (x .first);
+  begin = low16 (x .first / 65536);
+  end = low16 (x .first);
+  lost = high32 (x .second);
+  duplicates = low32 (x .second);
+  jitter = spread (high32 (x .third)) (low32 (x .third)) (high32 (x .fourth)) (low32 (x .fourth));
+  hops = byteSpread (h / 16777216 % 256) (h / 65536 % 256) (h / 256 % 256) (h % 256);
+}
+
+-- what is shown of them, by the block's first four bytes
+abbrev pub summaryIn : Known → ℕ → Summary
+summaryIn k h = summaryFrom (specificOf (four (k .block))) (sumsIn (k .kept) h)
+
 -- behind the packet's first four bytes w
 unfoldable pub inPacket : ℕ → Portions
 inPacket w = state sender 4 0 0 (announcedOf (four w) - 8) (known (announcedOf (four w)) 0 0 0 0)
+
+-- behind eight bytes of a summary: eight more, or the last four
+unfoldable pub summedOn : Portions → Portions
+summedOn st =
+    cond (eqb (st .rest) 4) (opened (summing (st .known) (st .held)) (st .rest) (st .behind) hops 4)
+    (opened (summing (st .known) (st .held)) (st .rest) (st .behind) sums 8)
 
 -- the state behind a complete item
 unfoldable pub passed : Portions → Portions
@@ -189,13 +234,15 @@ passed st =
     (opened (known (st .known .announced) (st .known .block) (low32 (st .held)) 0 0) (st .rest) (st .behind) echo 8)
     (cond (eqb (st .item) echo)
     (opened (known (st .known .announced) (st .known .block) 0 0 0) (st .rest) (st .behind) whose 4)
-    (opened (st .known) (st .rest) (st .behind) skipped (st .rest)))))))))
+    (cond (eqb (st .item) sums) (summedOn st)
+    (opened (st .known) (st .rest) (st .behind) skipped (st .rest))))))))))
 
 -- the event of a complete item that has at most one: all but words
 abbrev pub startIn : KindOr → ℕ → Lone
 startIn (AKind (Spans g)) w = Nothing
 startIn (AKind Clock) w = One (Start (typeOf (four w)) (blockLength (four w)))
 startIn (AKind Echoes) w = One (Start (typeOf (four w)) (blockLength (four w)))
+startIn (AKind Statistics) w = One (Start (typeOf (four w)) (blockLength (four w)))
 startIn NoKind w = One (Start (typeOf (four w)) (blockLength (four w)))
 
 abbrev pub rangedIn : Known → ℕ → Event
@@ -212,7 +259,8 @@ loneOf st =
     (cond (eqb (st .item) time)
     (cond (eqb (st .known .inside) 0) Nothing (One (Pair (receipt (st .known .next) (low32 (st .held))))))
     (cond (eqb (st .item) echo) (One (entryIn (st .known) (st .held)))
-    (cond (eqb (st .item) clock) (One (Time (record { 0 = st .held }))) Nothing)))))
+    (cond (eqb (st .item) clock) (One (Time (record { 0 = st .held })))
+    (cond (eqb (st .item) hops) (One (Summed (summaryIn (st .known) (st .held)))) Nothing))))))
 
 abbrev pub listOf : Lone → List Event
 listOf (One e) = e ∷ []

@@ -1,6 +1,6 @@
 // The state of a packet that comes in portions (RULES, "Packets in portions"). A packet is a row of items, each of a
 // known number of bytes: the state has the item at hand, how many of its bytes are missing and those that have come,
-// and what the items behind it need to know. Nothing else of the packet is kept: it is 64 bytes, whatever the packet.
+// and what the items behind it need to know. Nothing else of the packet is kept: it is 96 bytes, whatever the packet.
 // Definitions only: see specs/.
 use def_portions::Event;
 use def_refusals::Checked;
@@ -28,6 +28,20 @@ pub const SKIPPED: u8 = 9;
 
 pub const OVER: u8 = 10;
 
+// A summary's numbers, eight bytes four times, and the four bytes of TTL or hop limit behind them.
+pub const SUMS: u8 = 11;
+
+pub const HOPS: u8 = 12;
+
+// The last four items of eight bytes of a summary, the last one last.
+#[repr(C)]
+pub struct Kept {
+    pub first: u64,
+    pub second: u64,
+    pub third: u64,
+    pub fourth: u64,
+}
+
 // What the items behind the one at hand need to know.
 #[repr(C)]
 pub struct Known {
@@ -40,6 +54,8 @@ pub struct Known {
     // the next position's number, and how many positions are inside from it on
     pub next: u16,
     pub inside: usize,
+    // the numbers of the summary at hand
+    pub kept: Kept,
 }
 
 // Where a packet that comes in portions stands.

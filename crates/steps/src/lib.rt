@@ -12,23 +12,41 @@ ghost use Rattle.def_portions.specs.Events.{need, headFault, blockFault, ruleOf
 ghost use Rattle.states.specs.Steps.{start as startOf, known as knownOf, heldWith, heldOver, holds, faultOf};
 ghost use Rattle.states.specs.Steps.{nextBlock, opened as openedAt, inBlock, inPacket, thinningIn, fieldsIn};
 ghost use Rattle.states.specs.Steps.{ranged as rangedBy, moved as movedOn, passed as passedOf, startIn, loneOf};
-ghost use Rattle.states.specs.Steps.{shownBy, settledOf, goodLength};
+ghost use Rattle.states.specs.Steps.{shownBy, settledOf, goodLength, kept as keptOf, summing as summingOf, summaryIn};
+ghost use Rattle.states.specs.Steps.{summedOn, sumsIn};
 ghost use Rattle.states.specs.Steps.{low16 as low16Of, low32 as low32Of, high32 as high32Of};
 use def_portions::Event;
 use def_refusals::Checked;
 use def_refusals::Refusal;
 use def_standard::Echo;
 use def_standard::Receipt;
+use def_wire::ByteSpread;
 use def_wire::Fields;
 use def_wire::Kind;
 use def_wire::KindOr;
 use def_wire::LongTime;
 use def_wire::ReceiptTime;
 use def_wire::ShortTime;
+use def_wire::Spread;
+use def_wire::Summary;
+use def_wire::Sums;
+use states::Kept;
 use states::Known;
 use states::Lone;
 use states::Portions;
 use states::Settled;
+
+// Nothing of a summary.
+fn nothing() -> Kept
+    ensures { λ r. ⌜ r ≡ keptOf 0 0 0 0 ⌝ }
+{
+    Kept {
+        first: 0,
+        second: 0,
+        third: 0,
+        fourth: 0,
+    }
+}
 
 // Before the packet's first byte.
 pub fn start() -> Portions
@@ -45,6 +63,7 @@ pub fn start() -> Portions
             whose: 0,
             next: 0,
             inside: 0,
+            kept: nothing(),
         },
         item: states::HEAD,
     }
@@ -149,6 +168,7 @@ fn rule_of(t: u8, length: u32) -> Checked
                 let past = utils::above(l, 4) % 12;
                 rule(past == 0, l + (12 - past) % 12, l)
             }
+            Kind::Statistics => rule(l == 40, 40, l),
         },
         KindOr::NoKind => Checked::Fine,
     }
@@ -216,6 +236,7 @@ pub fn next_block(k: Known, behind: usize) -> Portions
         whose: 0,
         next: 0,
         inside: 0,
+        kept: nothing(),
     };
     if behind == 0 {
         return Portions {
@@ -264,6 +285,7 @@ fn in_block(announced: u32, behind: usize, w: u32) -> Portions
         whose: 0,
         next: 0,
         inside: 0,
+        kept: nothing(),
     };
     let rest = length_of(w) as usize - 4;
     let left = utils::above(behind, rest);
@@ -272,6 +294,7 @@ fn in_block(announced: u32, behind: usize, w: u32) -> Portions
             Kind::Spans(_) => opened(k, rest, left, states::FIELDS, 8),
             Kind::Clock => opened(k, rest, left, states::CLOCK, 8),
             Kind::Echoes => opened(k, rest, left, states::WHOSE, 4),
+            Kind::Statistics => opened(k, rest, left, states::SUMS, 8),
         },
         KindOr::NoKind => opened(k, rest, left, states::SKIPPED, rest),
     }
@@ -300,6 +323,7 @@ fn ranged(k: Known, held: u64) -> Known
         whose: 0,
         next: range::number_at(g, 0),
         inside: range::inside_count(g),
+        kept: nothing(),
     }
 }
 
@@ -313,6 +337,7 @@ fn moved(k: Known, n: u16) -> Known
         whose: 0,
         next: range::moved_by(n, thinning_of(k), k.next),
         inside: utils::above(k.inside, n as usize),
+        kept: nothing(),
     }
 }
 
@@ -326,7 +351,72 @@ fn for_entry(k: Known, whose: u32) -> Known
         whose,
         next: 0,
         inside: 0,
+        kept: nothing(),
     }
+}
+
+// Eight bytes of a summary more.
+fn summing(k: Known, held: u64) -> Known
+    ensures { λ r. ⌜ r ≡ summingOf k held ⌝ }
+{
+    let x = k.kept;
+    Known {
+        announced: k.announced,
+        block: k.block,
+        whose: 0,
+        next: 0,
+        inside: 0,
+        kept: Kept {
+            first: x.second,
+            second: x.third,
+            third: x.fourth,
+            fourth: held,
+        },
+    }
+}
+
+// Behind eight bytes of a summary: eight more, or the last four.
+fn summed_on(st: Portions) -> Portions
+    ensures { λ r. ⌜ r ≡ summedOn st ⌝ }
+{
+    let k = summing(st.known, st.held);
+    if st.rest == 4 {
+        return opened(k, st.rest, st.behind, states::HOPS, 4);
+    }
+    opened(k, st.rest, st.behind, states::SUMS, 8)
+}
+
+// The numbers of a summary, from what is kept of it and its last four bytes.
+fn sums_in(x: Kept, held: u64) -> Sums
+    ensures { λ r. ⌜ r ≡ sumsIn x held ⌝ }
+{
+    Sums {
+        ssrc: high32(x.first),
+        begin: low16(x.first / 65536),
+        end: low16(x.first),
+        lost: high32(x.second),
+        duplicates: low32(x.second),
+        jitter: Spread {
+            least: high32(x.third),
+            most: low32(x.third),
+            mean: high32(x.fourth),
+            deviation: low32(x.fourth),
+        },
+        hops: ByteSpread {
+            least: (held / 16777216 % 256) as u8,
+            most: (held / 65536 % 256) as u8,
+            mean: (held / 256 % 256) as u8,
+            deviation: (held % 256) as u8,
+        },
+    }
+}
+
+// What is shown of them.
+fn summary_in(k: Known, held: u64) -> Summary
+    ensures { λ r. ⌜ r ≡ summaryIn k held ⌝ }
+{
+    let x = k.kept;
+    stats::summary_from(second_byte(k.block), sums_in(x, held))
 }
 
 // Behind the packet's first four bytes.
@@ -345,6 +435,7 @@ fn in_packet(w: u32) -> Portions
             whose: 0,
             next: 0,
             inside: 0,
+            kept: nothing(),
         },
         item: states::SENDER,
     }
@@ -389,6 +480,9 @@ pub fn passed(st: Portions) -> Portions
     if st.item == states::ECHO {
         return opened(for_entry(k, 0), st.rest, st.behind, states::WHOSE, 4);
     }
+    if st.item == states::SUMS {
+        return summed_on(st);
+    }
     opened(k, st.rest, st.behind, states::SKIPPED, st.rest)
 }
 
@@ -402,6 +496,7 @@ fn start_in(w: u32) -> Lone
             Kind::Spans(_) => Lone::Nothing,
             Kind::Clock => Lone::One(Event::Start(t, length_of(w))),
             Kind::Echoes => Lone::One(Event::Start(t, length_of(w))),
+            Kind::Statistics => Lone::One(Event::Start(t, length_of(w))),
         },
         KindOr::NoKind => Lone::One(Event::Start(t, length_of(w))),
     }
@@ -442,6 +537,9 @@ pub fn lone(st: Portions) -> Lone
     }
     if st.item == states::CLOCK {
         return Lone::One(Event::Time(LongTime(st.held)));
+    }
+    if st.item == states::HOPS {
+        return Lone::One(Event::Summed(summary_in(k, st.held)));
     }
     Lone::Nothing
 }

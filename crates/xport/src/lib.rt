@@ -9,13 +9,14 @@ ghost use Rattle.def_wire.specs.Block.{rleOf, rangedOf, fieldsOf, timeOf};
 ghost use Rattle.def_standard.specs.Chunks.{chunkOf, wordBytes};
 ghost use Rattle.def_cursor.specs.Cursor.{cursor as here, advanceBy, filledBy};
 ghost use Rattle.def_questions.specs.Questions.{wordsShown, pairsShown, entriesShown};
-ghost use Rattle.def_questions.specs.Packets.{timeAsked, pairsAsked, entriesAsked};
+ghost use Rattle.def_wire.specs.Summary.{summaryOf};
+ghost use Rattle.def_questions.specs.Packets.{timeAsked, pairsAsked, entriesAsked, summaryAsked};
 ghost use Rattle.def_questions.specs.ByNumber.{fieldsBy, numbersBy, numbersViewBy, wordsBy};
 ghost use Rattle.def_questions.specs.ByNumber.{onRle, onRanged, notServed};
 ghost use Rattle.def_jobs.specs.Writing.{packetOf};
 ghost use Rattle.def_marks.specs.Marks.{marksAsked};
 ghost use Rattle.flat.specs.Flat.{readingOf, flatOf, flatLocated, flatFields, flatTime, chunkAsked};
-ghost use Rattle.flat.specs.Flat.{flatParsed, flatBlock, flatStretch, flatChunk};
+ghost use Rattle.flat.specs.Flat.{flatParsed, flatBlock, flatStretch, flatChunk, flatSummary};
 ghost use Rattle.flat.specs.Lists.{FlatListed, FlatPairs, FlatEntries, FlatStretched, FlatFollowing};
 ghost use Rattle.states.specs.Steps.{start};
 use def_cursor::Cursor;
@@ -28,6 +29,7 @@ use flat::FlatBlock;
 use flat::FlatFields;
 use flat::FlatFollowed;
 use flat::FlatStretch;
+use flat::FlatSummary;
 use states::Portions;
 use xr::Parsed;
 use xr::Xr;
@@ -209,11 +211,13 @@ pub extern "C" fn xr_follow(
     tags: &mut [u64],
     numbers: &mut [u16],
     values: &mut [u64],
+    sums: &mut [u64],
 ) -> FlatFollowed
     ensures { λ a. ⌜ FlatFollowing state (now (bytes .entry)) (now (tags .entry)) (now (numbers .entry))
-        (now (values .entry)) a (now (tags .exit)) (now (numbers .exit)) (now (values .exit)) ⌝ }
+        (now (values .entry)) (now (sums .entry)) a (now (tags .exit)) (now (numbers .exit)) (now (values .exit))
+        (now (sums .exit)) ⌝ }
 {
-    flat::followed(portions::follow(state, bytes, tags, numbers, values))
+    flat::followed(portions::follow(state, bytes, tags, numbers, values, sums))
 }
 
 // How many blocks a packet has, and its sender's SSRC: 1 to 6.
@@ -258,6 +262,22 @@ pub extern "C" fn xr_fields_view(r: u8, t: u8, view: &[u8]) -> FlatFields
         (FieldsOr.NoneOf (notServed (now (view .entry))))) ⌝ }
 {
     flat::fields(by_number::fields_view(flat::reading(r), t, view))
+}
+
+// What a block of type 6 shows: 10, 7; of the crate's reading, which has no such question, always 10.
+#[no_mangle]
+pub extern "C" fn xr_summary_view(r: u8, view: &[u8]) -> FlatSummary
+    ensures { λ a. ⌜ a ≡ flatSummary (summaryOf (readingOf r) (now (view .entry))) ⌝ }
+{
+    flat::summary(summary::summary(flat::reading(r), view))
+}
+
+// The same of block k of a packet: 1 to 6, 9, 10, 7.
+#[no_mangle]
+pub extern "C" fn xr_summary(r: u8, packet: &[u8], k: usize) -> FlatSummary
+    ensures { λ a. ⌜ a ≡ flatSummary (summaryAsked (readingOf r) (now (packet .entry)) k) ⌝ }
+{
+    flat::summary(summary::summary_in(flat::reading(r), packet, k))
 }
 
 // The time, of type 4: 10, 7.

@@ -28,11 +28,12 @@ fn one(
     tags: &mut [u64],
     numbers: &mut [u16],
     values: &mut [u64],
+    sums: &mut [u64],
     buf: &mut [u8],
     at: usize,
 ) -> Course {
-    let r = portions::follow(st, x, tags, numbers, values);
-    let n = event_lines::event_lines(buf, at, tags, numbers, values, r.events);
+    let r = portions::follow(st, x, tags, numbers, values, sums);
+    let n = event_lines::event_lines(buf, at, tags, numbers, values, sums, r.events);
     let s = r.state;
     let c = r.refusal;
     match c {
@@ -68,6 +69,7 @@ fn piece(
     tags: &mut [u64],
     numbers: &mut [u16],
     values: &mut [u64],
+    sums: &mut [u64],
     buf: &mut [u8],
 ) -> Course {
     let mut at: usize = 0;
@@ -84,6 +86,7 @@ fn piece(
             tags,
             numbers,
             values,
+            sums,
             buf,
             now.at,
         );
@@ -120,6 +123,7 @@ fn told(
     tags: &mut [u64],
     numbers: &mut [u16],
     values: &mut [u64],
+    sums: &mut [u64],
     buf: &mut [u8],
 ) -> Course {
     if x.len() == 0 {
@@ -132,7 +136,7 @@ fn told(
             at: 0,
         };
     }
-    let d = piece(c, x, tags, numbers, values, buf);
+    let d = piece(c, x, tags, numbers, values, sums, buf);
     let at = print::flush(buf, d.at);
     if !d.goes_on {
         lost();
@@ -153,11 +157,21 @@ fn turn(
     tags: &mut [u64],
     numbers: &mut [u16],
     values: &mut [u64],
+    sums: &mut [u64],
     buf: &mut [u8],
 ) -> Course {
     let got = libc::read(STDIN_FILENO, input);
     let n = io::count(got, input);
-    told(c, got, utils::part(input, 0, n), tags, numbers, values, buf)
+    told(
+        c,
+        got,
+        utils::part(input, 0, n),
+        tags,
+        numbers,
+        values,
+        sums,
+        buf,
+    )
 }
 
 // As many reads as the input has.
@@ -166,6 +180,7 @@ fn run(
     tags: &mut [u64],
     numbers: &mut [u16],
     values: &mut [u64],
+    sums: &mut [u64],
     buf: &mut [u8],
 ) {
     let mut left = TURNS;
@@ -176,7 +191,7 @@ fn run(
         at: 0,
     };
     while 0 < left {
-        c = turn(c, input, tags, numbers, values, buf);
+        c = turn(c, input, tags, numbers, values, sums, buf);
         if !c.goes_on {
             return;
         }
@@ -189,6 +204,14 @@ fn main() {
     let mut tags = [0u64; 16384];
     let mut numbers = [0u16; 16384];
     let mut values = [0u64; 16384];
+    let mut sums = [0u64; 49152];
     let mut buf = [0u8; 65536];
-    run(&mut input, &mut tags, &mut numbers, &mut values, &mut buf);
+    run(
+        &mut input,
+        &mut tags,
+        &mut numbers,
+        &mut values,
+        &mut sums,
+        &mut buf,
+    );
 }
