@@ -1,2 +1,3 @@
+pub mod KnownLaws
 -- Unique (no second answer).
 pub mod Unique
