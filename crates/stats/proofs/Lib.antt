@@ -1,0 +1,2 @@
+-- BackLaws (a summary from its flags and numbers).
+pub mod BackLaws
