@@ -1,2 +1,3 @@
--- BackLaws (a summary from its flags and numbers).
+-- BackLaws (a summary from its flags and numbers), Unique (no second answer).
 pub mod BackLaws
+pub mod Unique
