@@ -21,8 +21,10 @@ pub mod JobsSummaries
 pub mod Marks
 pub mod Portions
 pub mod PortionCalls
+pub mod PortionSummaries
 pub mod Text
 pub mod Dump
 pub mod EventLines
 pub mod Probe
 pub mod ProbePortions
+pub mod DumpSummaries

@@ -12,7 +12,6 @@ use Rattle.def_refusals.specs.Answers.{shown, refused}
 use Rattle.def_wire.specs.declared.Reading.the-variants.{Standard, Crate}
 use Rattle.def_wire.specs.declared.CountOr.the-variants.{Counted, Uncounted}
 use Rattle.def_wire.specs.declared.JitterOr.the-variants.{Jitter, NoJitter}
-use Rattle.def_wire.specs.declared.HopsOr.{HopsOr}
 use Rattle.def_wire.specs.declared.HopsOr.the-variants.{NoHops, Ttl, HopLimit, Unknown}
 use Rattle.def_wire.specs.declared.Summary.{Summary}
 use Rattle.def_wire.specs.Summary.{spread, byteSpread}
@@ -97,10 +96,7 @@ pub record Written : Type 0 where
       × (packetOf Careful (header 0 ++ (summary 0 ++ summary 240)) ≡ shown (packet (words-with 0 ++ words-with 240)))
       × (packetOf Plain (header 4 ++ summary 16) ≡ shown (padded (words-with 16 ++ (4 ∷ []))))
 
--- a summary that differs from `full` in one thing
-abbrev pub but : Summary → Record
-but s = summed s
-
+-- the numbers of `full`, of another span
 abbrev pub of-span : ℕ → ℕ → ℕ → Summary
 of-span s b e = record {
   ssrc = s;
@@ -144,8 +140,8 @@ pub record Shown : Type 0 where
   -- SSRC, begin, end, lost, duplicates
   pub differ :
       map (sameRecord (summed full))
-      (but (of-span 1 0x1112 0x1314) ∷ but (of-span 0x0a0b0c0d 1 0x1314) ∷ but (of-span 0x0a0b0c0d 0x1112 1)
-      ∷ but (with-numbers (Counted 1) twice jitter ttl) ∷ but (with-numbers lost (Counted 1) jitter ttl) ∷ [])
+      (summed (of-span 1 0x1112 0x1314) ∷ summed (of-span 0x0a0b0c0d 1 0x1314) ∷ summed (of-span 0x0a0b0c0d 0x1112 1)
+      ∷ summed (with-numbers (Counted 1) twice jitter ttl) ∷ summed (with-numbers lost (Counted 1) jitter ttl) ∷ [])
       ≡ false ∷ false ∷ false ∷ false ∷ false ∷ []
   -- each of four numbers of jitter, and of four of TTL
   pub fours-differ :
@@ -157,19 +153,19 @@ pub record Shown : Type 0 where
       ≡ true ∷ false ∷ false ∷ false ∷ false ∷ [])
   -- absent is not 0; TTL is not hop limit; ToH 0 is not 3; one absent is not the other
   pub absent-is-not-zero :
-      (sameRecord (but (with-numbers Uncounted twice jitter ttl)) (but (with-numbers (Counted 0) twice jitter ttl))
+      (sameRecord (summed (with-numbers Uncounted twice jitter ttl)) (summed (with-numbers (Counted 0) twice jitter ttl))
       ≡ false)
-      × (sameRecord (but (with-numbers lost Uncounted jitter ttl)) (but (with-numbers lost (Counted 0) jitter ttl))
+      × (sameRecord (summed (with-numbers lost Uncounted jitter ttl)) (summed (with-numbers lost (Counted 0) jitter ttl))
       ≡ false)
-      × (sameRecord (but (with-numbers lost twice NoJitter ttl)) (four-jitter 0 0 0 0) ≡ false)
-      × (sameRecord (but (with-numbers lost twice jitter NoHops)) (four-hops 0 0 0 0) ≡ false)
-      × (sameRecord (but (with-numbers (Counted 0) Uncounted NoJitter NoHops))
-      (but (with-numbers Uncounted (Counted 0) NoJitter NoHops))
+      × (sameRecord (summed (with-numbers lost twice NoJitter ttl)) (four-jitter 0 0 0 0) ≡ false)
+      × (sameRecord (summed (with-numbers lost twice jitter NoHops)) (four-hops 0 0 0 0) ≡ false)
+      × (sameRecord (summed (with-numbers (Counted 0) Uncounted NoJitter NoHops))
+      (summed (with-numbers Uncounted (Counted 0) NoJitter NoHops))
       ≡ false)
   pub by-toh :
-      (sameRecord (but (with-numbers lost twice jitter ttl)) (but (with-numbers lost twice jitter hops)) ≡ false)
-      × (sameRecord (but (with-numbers lost twice jitter NoHops)) (but (with-numbers lost twice jitter Unknown)) ≡ false)
-      × (sameRecord (but (with-numbers lost twice jitter ttl)) (but (with-numbers lost twice jitter Unknown)) ≡ false)
+      (sameRecord (summed (with-numbers lost twice jitter ttl)) (summed (with-numbers lost twice jitter hops)) ≡ false)
+      × (sameRecord (summed (with-numbers lost twice jitter NoHops)) (summed (with-numbers lost twice jitter Unknown)) ≡ false)
+      × (sameRecord (summed (with-numbers lost twice jitter ttl)) (summed (with-numbers lost twice jitter Unknown)) ≡ false)
   -- a summary and records of other kinds
   pub kinds-differ : map (sameRecord (summed empty)) (bare ∷ a-time ∷ an-echo ∷ []) ≡ false ∷ false ∷ false ∷ []
 

@@ -3,7 +3,8 @@
 -- Read in this order: Vectors (packets and job lists, a 32-bit word to a row), Examples (what is claimed of them),
 -- Rows (how the other files write bytes), then those of each definition crate: Refusals; Wire, WireWalk, WireBlock;
 -- Standard; Crate; Questions; Cursor, CursorCalls; Jobs, JobsLayout, JobsShown, JobsWriting, JobsOrder, JobsSize,
--- JobsLargest; Marks; Portions, PortionCalls; Text; Dump, EventLines; Probe, ProbePortions.
+-- JobsLargest; Marks; Portions, PortionCalls; Text; Dump, EventLines; Probe, ProbePortions. Summaries is of def_wire and
+-- def_questions, JobsSummaries, PortionSummaries and DumpSummaries of those crates and of def_probe, for type 6.
 pub mod Vectors
 pub mod Examples
 pub mod Rows
@@ -28,8 +29,10 @@ pub mod JobsSummaries
 pub mod Marks
 pub mod Portions
 pub mod PortionCalls
+pub mod PortionSummaries
 pub mod Text
 pub mod Dump
 pub mod EventLines
 pub mod Probe
 pub mod ProbePortions
+pub mod DumpSummaries

@@ -1,0 +1,79 @@
+-- DumpSummaries, by computation.
+use mathlib.Core.Path.{refl}
+use Rattle.def_refusals.specs.Numbers.{numbered}
+use Rattle.def_wire.specs.Bytes.{pairUp}
+use Rattle.def_wire.specs.Packet.{headerOf, placeOf, walkFrom, countOf, locate}
+use Rattle.def_wire.specs.Block.{rleOf, rangedOf, kindOf, standardRule, crateRule, fitness, checkOf, fieldsOf, timeOf}
+use Rattle.def_wire.specs.Block.{has, clearRule}
+use Rattle.def_wire.specs.Summary.{summaryFrom, summaryOf}
+use Rattle.def_questions.specs.Packets.{fieldsAsked, summaryAsked}
+use Rattle.def_questions.specs.ByNumber.{numbersBy, fieldsBy}
+use Rattle.def_jobs.specs.Jobs.{pairLow, jobsFrom, isHeaderJob, isBlockJob, jobsFault}
+use Rattle.def_jobs.specs.Layout.{blockBytes, blocksBytes, layoutOf}
+use Rattle.def_jobs.specs.Writing.{misleadingFrom, writeFault, packetOf}
+use Rattle.def_portions.specs.Events.{headFault, blockFault, kindEvents, clearWords, kindThen, blocksFrom, courseOf}
+use Rattle.def_portions.specs.Calls.{pastFault, callOf}
+use Rattle.def_text.specs.Numerals.{decimalWithin, hexesOf, spacedAll}
+use Rattle.def_dump.specs.Lines.{refusedLine, refusalLine, blockLine, fieldsLine, packetLine}
+use Rattle.def_dump.specs.Summaries.{spanText, countsText, jitterText, hopsText, summaryParts}
+use Rattle.def_dump.specs.Dump.{contentsOf, blockText, blocksText, readingText, dumpText}
+use Rattle.def_dump.specs.EventLines.{eventLine, eventLines, givenLine}
+use Rattle.def_probe.specs.Requests.{lineIn, numbersText, numbersReply, shownText, shownReply, writtenText, writtenReply}
+use Rattle.def_probe.specs.Requests.{sizesAt, callsText, portionsText, portionsReply, summaryText, summaryReply, answerTo}
+use Rattle.examples.specs.DumpSummaries.{Lines, Dumps, OfRequests}
+
+pub lines-hold : Lines
+unfolding numbered pairUp headerOf placeOf walkFrom countOf locate rleOf rangedOf kindOf standardRule crateRule
+    fitness checkOf fieldsOf timeOf has clearRule summaryFrom summaryOf fieldsAsked summaryAsked numbersBy fieldsBy
+    pairLow jobsFrom isHeaderJob isBlockJob jobsFault blockBytes blocksBytes layoutOf misleadingFrom writeFault
+    packetOf headFault blockFault kindEvents clearWords kindThen blocksFrom courseOf pastFault callOf decimalWithin
+    hexesOf spacedAll refusedLine refusalLine blockLine fieldsLine packetLine spanText countsText jitterText hopsText
+    summaryParts contentsOf blockText blocksText readingText dumpText eventLine eventLines givenLine lineIn
+    numbersText numbersReply shownText shownReply writtenText writtenReply sizesAt callsText portionsText
+    portionsReply summaryText summaryReply answerTo
+lines-hold =
+    record {
+      span = (refl, refl);
+      counts = (refl, refl, refl, refl, refl);
+      of-jitter = (refl, refl, refl);
+      of-hops = (refl, refl, refl, refl, refl);
+      between = refl;
+      four = (refl, refl);
+      event = (refl, refl);
+    }
+
+pub dumps-hold : Dumps
+unfolding numbered pairUp headerOf placeOf walkFrom countOf locate rleOf rangedOf kindOf standardRule crateRule
+    fitness checkOf fieldsOf timeOf has clearRule summaryFrom summaryOf fieldsAsked summaryAsked numbersBy fieldsBy
+    pairLow jobsFrom isHeaderJob isBlockJob jobsFault blockBytes blocksBytes layoutOf misleadingFrom writeFault
+    packetOf headFault blockFault kindEvents clearWords kindThen blocksFrom courseOf pastFault callOf decimalWithin
+    hexesOf spacedAll refusedLine refusalLine blockLine fieldsLine packetLine spanText countsText jitterText hopsText
+    summaryParts contentsOf blockText blocksText readingText dumpText eventLine eventLines givenLine lineIn
+    numbersText numbersReply shownText shownReply writtenText writtenReply sizesAt callsText portionsText
+    portionsReply summaryText summaryReply answerTo
+dumps-hold =
+    record {
+      stated = (refl, refl);
+      block = (refl, refl);
+      unfit = (refl, refl, refl, refl);
+      packets = refl;
+    }
+
+pub of-requests-hold : OfRequests
+unfolding numbered pairUp headerOf placeOf walkFrom countOf locate rleOf rangedOf kindOf standardRule crateRule
+    fitness checkOf fieldsOf timeOf has clearRule summaryFrom summaryOf fieldsAsked summaryAsked numbersBy fieldsBy
+    pairLow jobsFrom isHeaderJob isBlockJob jobsFault blockBytes blocksBytes layoutOf misleadingFrom writeFault
+    packetOf headFault blockFault kindEvents clearWords kindThen blocksFrom courseOf pastFault callOf decimalWithin
+    hexesOf spacedAll refusedLine refusalLine blockLine fieldsLine packetLine spanText countsText jitterText hopsText
+    summaryParts contentsOf blockText blocksText readingText dumpText eventLine eventLines givenLine lineIn
+    numbersText numbersReply shownText shownReply writtenText writtenReply sizesAt callsText portionsText
+    portionsReply summaryText summaryReply answerTo
+of-requests-hold =
+    record {
+      summaries = (refl, refl);
+      refusals = (refl, refl, refl, refl, refl);
+      bounds = (refl, refl, refl);
+      otherwise = (refl, refl, refl);
+      written = refl;
+      in-portions = (refl, refl);
+    }
