@@ -18,8 +18,9 @@ use Rattle.def_dump.specs.Lines.{refusedLine, refusalLine, blockLine, fieldsLin
 use Rattle.def_dump.specs.Summaries.{spanText, countsText, jitterText, hopsText, summaryParts}
 use Rattle.def_dump.specs.Dump.{contentsOf, blockText, blocksText, readingText, dumpText}
 use Rattle.def_dump.specs.EventLines.{eventLine, eventLines, givenLine}
-use Rattle.def_probe.specs.Requests.{lineIn, numbersText, numbersReply, shownText, shownReply, writtenText, writtenReply}
-use Rattle.def_probe.specs.Requests.{sizesAt, callsText, portionsText, portionsReply, summaryText, summaryReply, answerTo}
+use Rattle.def_probe.specs.Requests.{lineIn, numbersText, numbersReply, shownText, shownReply, writtenText}
+use Rattle.def_probe.specs.Requests.{writtenReply, sizesAt, callsText, portionsText, portionsReply, summaryText}
+use Rattle.def_probe.specs.Requests.{summaryReply, answerTo}
 use Rattle.examples.specs.DumpSummaries.{Lines, Dumps, OfRequests}
 
 pub lines-hold : Lines

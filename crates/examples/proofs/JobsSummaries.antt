@@ -65,8 +65,9 @@ shown-hold =
       itself = (refl, refl, refl);
       differ = refl;
       fours-differ = (refl, refl);
-      absent-is-not-zero = (refl, refl, refl, refl, refl);
-      by-toh = (refl, refl, refl);
+      absent-is-not-zero = refl;
+      one-absent = refl;
+      by-toh = (refl, refl);
       kinds-differ = refl;
     }
 

@@ -151,21 +151,25 @@ pub record Shown : Type 0 where
       × (map (sameRecord (four-hops 1 2 3 4))
       (four-hops 1 2 3 4 ∷ four-hops 9 2 3 4 ∷ four-hops 1 9 3 4 ∷ four-hops 1 2 9 4 ∷ four-hops 1 2 3 9 ∷ [])
       ≡ true ∷ false ∷ false ∷ false ∷ false ∷ [])
-  -- absent is not 0; TTL is not hop limit; ToH 0 is not 3; one absent is not the other
+  -- absent is not 0; the one absent is not the other
   pub absent-is-not-zero :
-      (sameRecord (summed (with-numbers Uncounted twice jitter ttl)) (summed (with-numbers (Counted 0) twice jitter ttl))
-      ≡ false)
-      × (sameRecord (summed (with-numbers lost Uncounted jitter ttl)) (summed (with-numbers lost (Counted 0) jitter ttl))
-      ≡ false)
-      × (sameRecord (summed (with-numbers lost twice NoJitter ttl)) (four-jitter 0 0 0 0) ≡ false)
-      × (sameRecord (summed (with-numbers lost twice jitter NoHops)) (four-hops 0 0 0 0) ≡ false)
-      × (sameRecord (summed (with-numbers (Counted 0) Uncounted NoJitter NoHops))
+      map (sameRecord (summed (with-numbers Uncounted Uncounted NoJitter NoHops)))
+      (summed (with-numbers (Counted 0) Uncounted NoJitter NoHops)
+      ∷ summed (with-numbers Uncounted (Counted 0) NoJitter NoHops)
+      ∷ summed (with-numbers Uncounted Uncounted (Jitter (spread 0 0 0 0)) NoHops)
+      ∷ summed (with-numbers Uncounted Uncounted NoJitter (Ttl (byteSpread 0 0 0 0))) ∷ [])
+      ≡ false ∷ false ∷ false ∷ false ∷ []
+  pub one-absent :
+      sameRecord (summed (with-numbers (Counted 0) Uncounted NoJitter NoHops))
       (summed (with-numbers Uncounted (Counted 0) NoJitter NoHops))
-      ≡ false)
+      ≡ false
+  -- TTL is not hop limit, and ToH 0 is not 3
   pub by-toh :
-      (sameRecord (summed (with-numbers lost twice jitter ttl)) (summed (with-numbers lost twice jitter hops)) ≡ false)
-      × (sameRecord (summed (with-numbers lost twice jitter NoHops)) (summed (with-numbers lost twice jitter Unknown)) ≡ false)
-      × (sameRecord (summed (with-numbers lost twice jitter ttl)) (summed (with-numbers lost twice jitter Unknown)) ≡ false)
+      (map (sameRecord (summed (with-numbers lost twice jitter ttl)))
+      (summed (with-numbers lost twice jitter hops) ∷ summed (with-numbers lost twice jitter Unknown) ∷ [])
+      ≡ false ∷ false ∷ [])
+      × (sameRecord (summed (with-numbers lost twice jitter NoHops)) (summed (with-numbers lost twice jitter Unknown))
+      ≡ false)
   -- a summary and records of other kinds
   pub kinds-differ : map (sameRecord (summed empty)) (bare ∷ a-time ∷ an-echo ∷ []) ≡ false ∷ false ∷ false ∷ []
 

@@ -3,8 +3,8 @@
 -- Read in this order: Vectors (packets and job lists, a 32-bit word to a row), Examples (what is claimed of them),
 -- Rows (how the other files write bytes), then those of each definition crate: Refusals; Wire, WireWalk, WireBlock;
 -- Standard; Crate; Questions; Cursor, CursorCalls; Jobs, JobsLayout, JobsShown, JobsWriting, JobsOrder, JobsSize,
--- JobsLargest; Marks; Portions, PortionCalls; Text; Dump, EventLines; Probe, ProbePortions. Summaries is of def_wire and
--- def_questions, JobsSummaries, PortionSummaries and DumpSummaries of those crates and of def_probe, for type 6.
+-- JobsLargest; Marks; Portions, PortionCalls; Text; Dump, EventLines; Probe, ProbePortions. For type 6: Summaries (def_wire
+-- and def_questions), JobsSummaries, PortionSummaries, DumpSummaries (def_dump and def_probe).
 pub mod Vectors
 pub mod Examples
 pub mod Rows

@@ -1,5 +1,5 @@
--- Facts of def_portions for type 6: the start at a summary's fourth byte, the summary at its last, 7 for another length,
--- and how four lists hold it.
+-- Facts of def_portions for type 6: the start at a summary's fourth byte, the summary at its last, 7 for another
+-- length, and how four lists hold it.
 -- RULES, "Packets in portions".
 use Prim.Native.Nat.{ℕ}
 use mathlib.Core.Path.{_≡_}

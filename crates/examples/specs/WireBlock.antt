@@ -18,8 +18,8 @@ use Rattle.def_wire.specs.declared.KindOr.the-variants.{AKind, NoKind}
 use Rattle.def_wire.specs.declared.FieldsOr.the-variants.{Shown, NoneOf}
 use Rattle.def_wire.specs.declared.TimeOr.the-variants.{Time, NoTime}
 use Rattle.def_wire.specs.Block.{headerData, typeOf, specificOf, blockLength, fieldsAt, timeAt, kindType}
-use Rattle.def_wire.specs.Block.{rleOf, rangedOf, kindOf, kindIn, rule, nextFit, standardRule, crateRule, fitness, checkOf}
-use Rattle.def_wire.specs.Block.{isCut, fieldsOf, timeOf, wordsAt, lostRun, has, clearRule, wordRule}
+use Rattle.def_wire.specs.Block.{rleOf, rangedOf, kindOf, kindIn, rule, nextFit, standardRule, crateRule, fitness}
+use Rattle.def_wire.specs.Block.{checkOf, isCut, fieldsOf, timeOf, wordsAt, lostRun, has, clearRule, wordRule}
 use Rattle.examples.specs.Rows.{fields, rows}
 
 -- the numbers that ask for a kind, those around them, and those that a byte or two bytes would take for one
@@ -33,7 +33,8 @@ pub record Kinds : Type 0 where
       × (kindType Clock ≡ 4) × (kindType Echoes ≡ 5) × (kindType Statistics ≡ 6)
   pub rle :
       map rleOf asked
-      ≡ NoRle ∷ AnRle Loss ∷ AnRle Duplicate ∷ NoRle ∷ NoRle ∷ NoRle ∷ NoRle ∷ NoRle ∷ NoRle ∷ NoRle ∷ NoRle ∷ NoRle ∷ NoRle ∷ []
+      ≡ NoRle ∷ AnRle Loss ∷ AnRle Duplicate ∷ NoRle ∷ NoRle ∷ NoRle ∷ NoRle ∷ NoRle ∷ NoRle ∷ NoRle ∷ NoRle
+      ∷ NoRle ∷ NoRle ∷ []
   pub ranged :
       map rangedOf asked
       ≡ NoRange ∷ ARange (Chunks Loss) ∷ ARange (Chunks Duplicate) ∷ ARange Times ∷ NoRange ∷ NoRange ∷ NoRange
