@@ -1,10 +1,10 @@
 -- The twelve examples of RULES, and worked facts for each clause of the definitions: each boundary and one past it,
 -- each value that goes with a refusal, each order where two apply. proofs/ proves them, under the same file names.
 -- Read in this order: Vectors (packets and job lists, a 32-bit word to a row), Examples (what is claimed of them),
--- Rows (how the other files write bytes), then those of each definition crate: Refusals; Wire, WireWalk, WireBlock;
--- Standard; Crate; Questions; Cursor, CursorCalls; Jobs, JobsLayout, JobsShown, JobsWriting, JobsOrder, JobsSize,
--- JobsLargest; Marks; Portions, PortionCalls; Text; Dump, EventLines; Probe, ProbePortions. For type 6: Summaries (def_wire
--- and def_questions), JobsSummaries, PortionSummaries, DumpSummaries (def_dump and def_probe).
+-- Rows (how the other files write bytes), then those of each definition crate: Refusals; Wire, WireWalk, WireBlock,
+-- WireSummary; Standard; Crate; Questions, QuestionsSummary; Cursor, CursorCalls; Jobs, JobsLayout, JobsShown,
+-- JobsWriting, JobsOrder, JobsSize, JobsLargest, JobsSummary; Marks; Portions, PortionCalls, PortionSummary; Text;
+-- Dump, EventLines, DumpSummary; Probe, ProbePortions, ProbeSummary.
 pub mod Vectors
 pub mod Examples
 pub mod Rows
@@ -12,10 +12,11 @@ pub mod Refusals
 pub mod Wire
 pub mod WireWalk
 pub mod WireBlock
+pub mod WireSummary
 pub mod Standard
 pub mod Crate
 pub mod Questions
-pub mod Summaries
+pub mod QuestionsSummary
 pub mod Cursor
 pub mod CursorCalls
 pub mod Jobs
@@ -25,14 +26,15 @@ pub mod JobsWriting
 pub mod JobsOrder
 pub mod JobsSize
 pub mod JobsLargest
-pub mod JobsSummaries
+pub mod JobsSummary
 pub mod Marks
 pub mod Portions
 pub mod PortionCalls
-pub mod PortionSummaries
+pub mod PortionSummary
 pub mod Text
 pub mod Dump
 pub mod EventLines
+pub mod DumpSummary
 pub mod Probe
 pub mod ProbePortions
-pub mod DumpSummaries
+pub mod ProbeSummary

@@ -1,4 +1,4 @@
--- JobsSummaries, by computation.
+-- JobsSummary, by computation.
 use mathlib.Core.Path.{refl}
 use Rattle.def_refusals.specs.Numbers.{numbered}
 use Rattle.def_wire.specs.Bytes.{pairUp}
@@ -16,7 +16,7 @@ use Rattle.def_jobs.specs.Shown.{recordOf, numbersRow}
 use Rattle.def_jobs.specs.Jobs.{pairLow, jobsFrom, isHeaderJob, isBlockJob, jobsFault, askedOf}
 use Rattle.def_jobs.specs.Layout.{zerosBehind, blockBytes, blocksBytes, layoutOf}
 use Rattle.def_jobs.specs.Writing.{misleadingFrom, writeFault, packetOf}
-use Rattle.examples.specs.JobsSummaries.{Records, Written, Shown, Misled}
+use Rattle.examples.specs.JobsSummary.{Records, Written, Shown, Misled}
 
 pub records-hold : Records
 unfolding numbered pairUp headerOf placeOf walkFrom countOf locate rleOf rangedOf kindOf standardRule crateRule

@@ -21,8 +21,8 @@ use Rattle.def_jobs.specs.Jobs.{Job, jobFlags, jobSums, isFlags, isBlockJob, as
 use Rattle.def_jobs.specs.Layout.{sumsBytes, blockBytes}
 use Rattle.def_jobs.specs.Writing.{isBare, sameShown, differs, misleads, packetOf}
 use Rattle.examples.specs.Rows.{rows, packet, padded, le2, le4, le4s, job, header, report, receipts}
-use Rattle.examples.specs.Summaries.{nine-words, words-with, a-block, the-sums, with-numbers, full, empty}
-use Rattle.examples.specs.Summaries.{lost, twice, jitter, ttl, hops, too-short, too-long}
+use Rattle.examples.specs.WireSummary.{nine-words, words-with, a-block, the-sums, with-numbers, full, empty}
+use Rattle.examples.specs.WireSummary.{lost, twice, jitter, ttl, hops, too-short, too-long}
 use Rattle.examples.specs.Jobs.{of-kind, fits, bad, fault, at-record}
 use Rattle.examples.specs.JobsShown.{a-time, an-echo}
 use Rattle.examples.specs.JobsOrder.{careful, a-clock, an-echo as echo-job, four-bytes, times}

@@ -22,8 +22,8 @@ use Rattle.def_portions.specs.Lists.{spanValue, hopsNumber, summaryTag, sumsRow
 use Rattle.examples.specs.Rows.{rows, packet, fields}
 use Rattle.examples.specs.Portions.{pair, entry, time, lost-loss}
 use Rattle.examples.specs.PortionCalls.{call}
-use Rattle.examples.specs.Summaries.{words-with, a-block, the-sums, sums-of, with-numbers, full, empty, lost}
-use Rattle.examples.specs.Summaries.{twice, jitter, hops}
+use Rattle.examples.specs.WireSummary.{words-with, a-block, the-sums, sums-of, with-numbers, full, empty, lost}
+use Rattle.examples.specs.WireSummary.{twice, jitter, hops}
 
 pub record OneBlock : Type 0 where
   -- 7 with 40 and L, at the block's fourth byte

@@ -1,4 +1,4 @@
--- PortionSummaries, by computation.
+-- PortionSummary, by computation.
 use mathlib.Core.Path.{refl}
 use Rattle.def_wire.specs.Bytes.{pairUp}
 use Rattle.def_wire.specs.Block.{rleOf, rangedOf, kindOf, standardRule, has, clearRule}
@@ -6,7 +6,7 @@ use Rattle.def_wire.specs.Summary.{summaryFrom, flagsOf, sumsOf}
 use Rattle.def_portions.specs.Events.{headFault, blockFault, kindEvents, clearWords, kindThen, blocksFrom, courseOf}
 use Rattle.def_portions.specs.Calls.{pastFault, callOf}
 use Rattle.def_portions.specs.Lists.{tagOf, numberPart, valuePart, laidBy, putSums}
-use Rattle.examples.specs.PortionSummaries.{OneBlock, OfAPacket, Held}
+use Rattle.examples.specs.PortionSummary.{OneBlock, OfAPacket, Held}
 
 pub one-block-hold : OneBlock
 unfolding pairUp rleOf rangedOf kindOf standardRule has clearRule summaryFrom flagsOf sumsOf headFault blockFault
