@@ -10,6 +10,7 @@ unfolding pairUp rleOf rangedOf kindOf standardRule crateRule fitness checkOf ha
     flagsOf sumsOf
 parts-hold =
     record {
+      fours = (refl, refl);
       places = (refl, refl);
       largest = refl;
       flag-bits = (refl, refl, refl);

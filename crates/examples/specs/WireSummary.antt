@@ -91,6 +91,10 @@ abbrev pub empty : Summary
 empty = with-numbers Uncounted Uncounted NoJitter NoHops
 
 pub record Parts : Type 0 where
+  -- four numbers in the block's order
+  pub fours :
+      (spread 1 2 3 4 ≡ record { least = 1; most = 2; mean = 3; deviation = 4 })
+      × (byteSpread 1 2 3 4 ≡ record { least = 1; most = 2; mean = 3; deviation = 4 })
   -- every number at its own place, whatever the flags are; all bits of each
   pub places : (sumsAt (a-block 0) ≡ the-sums) × (sumsAt (a-block 255) ≡ the-sums)
   pub largest :
