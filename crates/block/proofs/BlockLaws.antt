@@ -17,16 +17,16 @@ use Rattle.def_wire.specs.declared.Rle.{Rle}
 use Rattle.def_wire.specs.declared.Ranged.{Ranged}
 use Rattle.def_wire.specs.declared.Ranged.the-variants.{Chunks, Times}
 use Rattle.def_wire.specs.declared.Kind.{Kind}
-use Rattle.def_wire.specs.declared.Kind.the-variants.{Spans, Clock, Echoes}
+use Rattle.def_wire.specs.declared.Kind.the-variants.{Spans, Clock, Echoes, Statistics}
 use Rattle.def_wire.specs.declared.FieldsOr.the-variants.{Shown, NoneOf}
 use Rattle.def_wire.specs.declared.TimeOr.the-variants.{Time, NoTime}
 use Rattle.def_wire.specs.declared.Located.the-variants.{At, Missing}
 use Rattle.def_wire.specs.Packet.{locate, part}
 use Rattle.def_wire.specs.Block.{typeOf, blockLength, rleType, receiptType, clockType, echoType, kindType, rule}
-use Rattle.def_wire.specs.Block.{wordsAt, standardRule, lostRun, has, clearRule, crateRule, fitness, checkOf}
+use Rattle.def_wire.specs.Block.{summaryType, wordsAt, standardRule, lostRun, has, clearRule, crateRule, fitness, checkOf}
 use Rattle.def_wire.specs.Block.{isCut, fieldsAt, fieldsOf, timeAt, timeOf}
 use Rattle.def_questions.specs.Packets.{fieldsAsked, timeAsked}
-use Rattle.utils.proofs.ClearLaws.{fit-times, fit-clock, fit-echoes}
+use Rattle.utils.proofs.ClearLaws.{fit-times, fit-clock, fit-echoes, fit-statistics}
 use Rattle.block.specs.Lengths.{lengthCheck}
 
 -- 10
@@ -107,6 +107,15 @@ module _ (r : Reading) (v : List ℕ) where
         → rule (eqb (l % 16) 0) (l + l % 16) (length v) ≡ checkOf r Echoes v
     unfolding checkOf fitness crateRule
     echoes-crate l h k q = rw (eq-eqb _ _ e, q, h, le-leb _ _ k)
+
+  module _ (e : typeOf v ≡ summaryType) where
+    pub statistics-standard : r ≡ Standard → rule (eqb (length v) 40) 40 (length v) ≡ checkOf r Statistics v
+    unfolding checkOf standardRule
+    statistics-standard q = rw (eq-eqb _ _ e, q, fit-statistics v)
+
+    pub statistics-crate : r ≡ Crate → Unfit (OtherType (typeOf v)) ≡ checkOf r Statistics v
+    unfolding checkOf fitness crateRule
+    statistics-crate q = rw (e, q)
 
 module _ (r : Reading) (g : Ranged) (v : List ℕ) where
   pub fields-shown : checkOf r (Spans g) v ≡ Fine → isCut r g (length v) ≡ false → Shown (fieldsAt v) ≡ fieldsOf r g v

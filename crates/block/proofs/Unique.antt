@@ -8,6 +8,7 @@ use Rattle.block.proofs.check_chunks.Reads as check-chunks
 use Rattle.block.proofs.check_times.Reads as check-times
 use Rattle.block.proofs.check_clock.Reads as check-clock
 use Rattle.block.proofs.check_echoes.Reads as check-echoes
+use Rattle.block.proofs.check_statistics.Reads as check-statistics
 use Rattle.block.proofs.check.Reads as check
 use Rattle.block.proofs.fields_at.Reads as fields-at
 use Rattle.block.proofs.fields.Reads as fields
@@ -29,6 +30,9 @@ check-clock-unique κs a r₁ r₂ s₁ s₂ p q = p ∙ sym q
 
 pub check-echoes-unique : (κs : Lfts 1) → Fixes (check-echoes.Post κs) (λ r s. r)
 check-echoes-unique κs a r₁ r₂ s₁ s₂ p q = p ∙ sym q
+
+pub check-statistics-unique : (κs : Lfts 1) → Fixes (check-statistics.Post κs) (λ r s. r)
+check-statistics-unique κs a r₁ r₂ s₁ s₂ p q = p ∙ sym q
 
 pub check-unique : (κs : Lfts 1) → Fixes (check.Post κs) (λ r s. r)
 check-unique κs a r₁ r₂ s₁ s₂ p q = p ∙ sym q

@@ -2,7 +2,7 @@
 --     summaryParts     its four texts, with something between them
 --     summaryLines     in the dump: four lines
 use Prim.Native.Nat.{ℕ}
-use mathlib.Core.List.{List, [], _∷_, _++_}
+use mathlib.Core.List.{List, _++_}
 use Rattle.def_wire.specs.declared.Spread.{Spread}
 use Rattle.def_wire.specs.declared.ByteSpread.{ByteSpread}
 use Rattle.def_wire.specs.declared.CountOr.{CountOr}
@@ -12,7 +12,7 @@ use Rattle.def_wire.specs.declared.JitterOr.the-variants.{Jitter, NoJitter}
 use Rattle.def_wire.specs.declared.HopsOr.{HopsOr}
 use Rattle.def_wire.specs.declared.HopsOr.the-variants.{NoHops, Ttl, HopLimit, Unknown}
 use Rattle.def_wire.specs.declared.Summary.{Summary}
-use Rattle.def_text.specs.Numerals.{ascii, spaced, spacedAll, labelled, lineEnd}
+use Rattle.def_text.specs.Numerals.{ascii, spaced, labelled, lineEnd}
 
 abbrev pub absent : List ℕ
 absent = ascii " absent"
@@ -32,12 +32,12 @@ countsText s = ascii "lost" ++ countText (s .lost) ++ ascii " duplicates" ++ cou
 
 -- `jitter MIN MAX MEAN DEVIATION`, or `jitter absent`
 unfoldable pub jitterText : JitterOr → List ℕ
-jitterText (Jitter x) = ascii "jitter" ++ spacedAll (x .least ∷ x .most ∷ x .mean ∷ x .deviation ∷ [])
+jitterText (Jitter x) = ascii "jitter" ++ spaced (x .least) ++ spaced (x .most) ++ spaced (x .mean) ++ spaced (x .deviation)
 jitterText NoJitter = ascii "jitter" ++ absent
 
 -- `ttl MIN MAX MEAN DEVIATION`, `hops ..`; `ttl absent` where ToH is 0, `toh 3 absent` where it is 3
 abbrev pub fourText : ByteSpread → List ℕ
-fourText x = spacedAll (x .least ∷ x .most ∷ x .mean ∷ x .deviation ∷ [])
+fourText x = spaced (x .least) ++ spaced (x .most) ++ spaced (x .mean) ++ spaced (x .deviation)
 
 unfoldable pub hopsText : HopsOr → List ℕ
 hopsText NoHops = ascii "ttl" ++ absent
@@ -47,7 +47,7 @@ hopsText Unknown = ascii "toh 3" ++ absent
 
 unfoldable pub summaryParts : List ℕ → Summary → List ℕ
 summaryParts between s =
-    spanText s ++ (between ++ (countsText s ++ (between ++ (jitterText (s .jitter) ++ (between ++ hopsText (s .hops))))))
+    spanText s ++ between ++ countsText s ++ between ++ jitterText (s .jitter) ++ between ++ hopsText (s .hops)
 
 abbrev pub summaryLines : Summary → List ℕ
 summaryLines s = summaryParts lineEnd s ++ lineEnd

@@ -1,4 +1,4 @@
--- LaidLaws (events laid into three lists), PartsLaws (events read back from them).
+-- LaidLaws (events laid into four lists), PartsLaws (events read back from them).
 pub mod LaidLaws
 pub mod PartsLaws
 pub mod Unique

@@ -8,17 +8,20 @@ use Rattle.event_lists.proofs.put_tags.Reads as put-tags
 use Rattle.event_lists.proofs.put_word.Reads as put-word
 use Rattle.event_lists.proofs.event_of.Reads as event-of
 
-pub put-unique : (κs : Lfts 3) → Fixes (put.Post κs) (λ r s. r)
+pub put-unique : (κs : Lfts 4) → Fixes (put.Post κs) (λ r s. r)
 put-unique κs a r₁ r₂ s₁ s₂ p q = p .past ∙ sym (q .past)
 
-pub put-unique-tags : (κs : Lfts 3) → Fixes (put.Post κs) (λ r s. s .0 .now)
+pub put-unique-tags : (κs : Lfts 4) → Fixes (put.Post κs) (λ r s. s .0 .now)
 put-unique-tags κs a r₁ r₂ s₁ s₂ p q = p .tags ∙ sym (q .tags)
 
-pub put-unique-numbers : (κs : Lfts 3) → Fixes (put.Post κs) (λ r s. s .1 .0 .now)
+pub put-unique-numbers : (κs : Lfts 4) → Fixes (put.Post κs) (λ r s. s .1 .0 .now)
 put-unique-numbers κs a r₁ r₂ s₁ s₂ p q = p .numbers ∙ sym (q .numbers)
 
-pub put-unique-values : (κs : Lfts 3) → Fixes (put.Post κs) (λ r s. s .1 .1 .0 .now)
+pub put-unique-values : (κs : Lfts 4) → Fixes (put.Post κs) (λ r s. s .1 .1 .0 .now)
 put-unique-values κs a r₁ r₂ s₁ s₂ p q = p .values ∙ sym (q .values)
+
+pub put-unique-sums : (κs : Lfts 4) → Fixes (put.Post κs) (λ r s. s .1 .1 .1 .0 .now)
+put-unique-sums κs a r₁ r₂ s₁ s₂ p q = p .sums ∙ sym (q .sums)
 
 pub put-tags-unique-tags : (κs : Lfts 1) → Fixes (put-tags.Post κs) (λ r s. s .0 .now)
 put-tags-unique-tags κs a r₁ r₂ s₁ s₂ p q = p ∙ sym q

@@ -7,10 +7,10 @@ use Prim.Native.Nat.{ℕ, _-_, _%_, _≤_, _<_}
 use mathlib.Core.Path.{_≡_, refl}
 use native.Mathlib.Omega.{arith}
 use lib.Dec.{leb, eqb}
-use borrow.Author.Tests.{eqb-true, leb-true}
+use borrow.Author.Tests.{eqb-true, eqb-false, leb-true}
 use Rattle.laws.proofs.Tests.{either}
 use Rattle.def_refusals.specs.declared.Checked.the-variants.{Fine}
-use Rattle.def_wire.specs.declared.Kind.the-variants.{Spans, Clock, Echoes}
+use Rattle.def_wire.specs.declared.Kind.the-variants.{Spans, Clock, Echoes, Statistics}
 use Rattle.def_wire.specs.declared.KindOr.{KindOr}
 use Rattle.def_wire.specs.declared.KindOr.the-variants.{AKind, NoKind}
 use Rattle.def_wire.specs.Block.{standardRule, receiptType, nextFit}
@@ -18,8 +18,8 @@ use Rattle.def_standard.specs.Chunks.{coversOf}
 use Rattle.def_portions.specs.Events.{ruleOf}
 use Rattle.states.specs.declared.Known.{Known}
 use Rattle.states.specs.declared.Portions.{Portions}
-use Rattle.states.specs.Steps.{fields, word, time, whose, echo, clock, skipped}
-use Rattle.states.specs.Steps.{known, low16, low32, typeIn, ranged, moved, opened, openedBy, passed}
+use Rattle.states.specs.Steps.{fields, word, time, whose, echo, clock, skipped, sums, hops}
+use Rattle.states.specs.Steps.{known, low16, low32, typeIn, ranged, moved, summing, opened, openedBy, summedOn, passed}
 use Rattle.followed.proofs.CheckLaws.{rule-fine}
 
 pub data Inner (item rest : ℕ) : Type 0 where
@@ -29,6 +29,8 @@ pub data Inner (item rest : ℕ) : Type 0 where
   at-whose : item ≡ whose → rest % 12 ≡ 8 → Inner item rest
   at-echo : item ≡ echo → rest % 12 ≡ 0 → Inner item rest
   at-clock : item ≡ clock → rest ≡ 0 → Inner item rest
+  at-sums : item ≡ sums → rest % 8 ≡ 4 → Inner item rest
+  at-hops : item ≡ hops → rest ≡ 0 → Inner item rest
   at-skipped : item ≡ skipped → rest ≡ 0 → Inner item rest
 
 -- an item of which bytes are missing, where the block has bytes left for it
@@ -57,6 +59,10 @@ kind-onward (AKind Echoes) k l behind e f d h =
     let r : (l - 4) % 12 ≡ 0 = eqb-true _ _ (rule-fine (eqb ((l - 4) % 12) 0) (nextFit l) l f) in
     onward k whose 4 e
     (λ (s : 0 < l - 4). record { some = omega arith; fits = omega arith; shape = at-whose refl (omega arith) }) refl
+kind-onward (AKind Statistics) k l behind e f d h =
+    let r : l ≡ 40 = eqb-true _ _ (rule-fine (eqb l 40) 40 l f) in
+    onward k sums 8 e
+    (λ s. record { some = omega arith; fits = omega arith; shape = at-sums refl (omega arith) }) refl
 kind-onward NoKind k l behind e f d h =
     onward k skipped (l - 4) e
     (λ s. record { some = s; fits = omega arith; shape = at-skipped refl (omega arith) }) refl
@@ -72,6 +78,21 @@ module _ (c : Portions) where
   -- in an entry
   abbrev sent : ℕ → Known
   sent ssrc = known (c .known .announced) (c .known .block) ssrc 0 0
+
+  -- in a summary: eight bytes more, or the last four
+  sums-onward : {announced : ℕ} → c .known .announced ≡ announced → c .item ≡ sums → c .rest % 8 ≡ 4
+      → Onward announced (c .rest) (c .behind) (passed c)
+  unfolding passed summedOn
+  sums-onward e i r =
+      either (eqb (c .rest) 4)
+      (λ t. let n : c .rest ≡ 4 = eqb-true _ _ t in
+      onward (summing (c .known) (c .held)) hops 4 e
+      (λ (s : 0 < c .rest). record { some = omega arith; fits = omega arith; shape = at-hops refl (omega arith) })
+      (rw (i, t)))
+      (λ f. let n : c .rest ≡ 4 → ⊥ = eqb-false _ _ f in
+      onward (summing (c .known) (c .held)) sums 8 e
+      (λ (s : 0 < c .rest). record { some = omega arith; fits = omega arith; shape = at-sums refl (omega arith) })
+      (rw (i, f)))
 
   pub item-onward : {announced : ℕ} → c .known .announced ≡ announced → Inner (c .item) (c .rest)
       → Onward announced (c .rest) (c .behind) (passed c)
@@ -92,6 +113,9 @@ module _ (c : Portions) where
       (λ (s : 0 < c .rest). record { some = omega arith; fits = omega arith; shape = at-whose refl (omega arith) })
       (rw i)
   item-onward e (at-clock i r) =
+      onward (c .known) skipped (c .rest) e (λ (s : 0 < c .rest). absurd (omega arith)) (rw i)
+  item-onward e (at-sums i r) = sums-onward e i r
+  item-onward e (at-hops i r) =
       onward (c .known) skipped (c .rest) e (λ (s : 0 < c .rest). absurd (omega arith)) (rw i)
   item-onward e (at-skipped i r) =
       onward (c .known) skipped (c .rest) e (λ (s : 0 < c .rest). absurd (omega arith)) (rw i)

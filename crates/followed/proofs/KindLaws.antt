@@ -30,7 +30,9 @@ kind-back t =
     (either (eqb t 4) (λ y. rw y (eqb-true _ _ y))
     (λ n. rw n
     (either (eqb t 5) (λ y. rw y (eqb-true _ _ y))
-    (λ n. rw n refl)))))))))
+    (λ n. rw n
+    (either (eqb t 6) (λ y. rw y (eqb-true _ _ y))
+    (λ n. rw n refl)))))))))))
 
 pub kind-type : (t : ℕ) (k : Kind) → kindOf t ≡ AKind k → t ≡ kindType k
 kind-type t k e = rw e at (kind-back t)

@@ -14,17 +14,18 @@ use Rattle.laws.proofs.Tests.{either}
 use Rattle.utils.proofs.BytesLaws.{Bytes}
 use Rattle.def_refusals.specs.declared.Checked.the-variants.{Fine}
 use Rattle.def_wire.specs.declared.Ranged.the-variants.{Chunks, Times}
-use Rattle.def_wire.specs.declared.Kind.the-variants.{Spans, Clock, Echoes}
+use Rattle.def_wire.specs.declared.Kind.the-variants.{Spans, Clock, Echoes, Statistics}
 use Rattle.def_wire.specs.declared.KindOr.{KindOr}
 use Rattle.def_wire.specs.declared.KindOr.the-variants.{AKind, NoKind}
 use Rattle.def_wire.specs.Bytes.{be32, four}
 use Rattle.def_wire.specs.Block.{typeOf, blockLength, timeAt, kindOf, standardRule, receiptType, nextFit}
+use Rattle.def_wire.specs.Summary.{summaryAt}
 use Rattle.def_standard.specs.Standard.{entriesOf}
 use Rattle.def_portions.specs.declared.Event.{Event}
-use Rattle.def_portions.specs.declared.Event.the-variants.{Start, Time, Entry}
+use Rattle.def_portions.specs.declared.Event.the-variants.{Start, Time, Summed, Entry}
 use Rattle.def_portions.specs.Events.{Course, then, from, startOf, kindEvents, kindThen, ruleOf}
 use Rattle.states.specs.declared.Known.{Known}
-use Rattle.states.specs.Steps.{state, clock, skipped, whose, itemFault, passed, shownBy, loneOf, opened, openedBy}
+use Rattle.states.specs.Steps.{state, clock, skipped, whose, sums, itemFault, passed, shownBy, loneOf, opened, openedBy}
 use Rattle.states.specs.Steps.{startIn, listOf}
 use Rattle.states.specs.declared.Lone.the-variants.{One}
 use Rattle.followed.specs.Run.{runOf, opening, ending}
@@ -34,6 +35,7 @@ use Rattle.followed.proofs.ValueLaws.{held-eight, four-held, bytes-take
 use Rattle.followed.proofs.UnitsRun.{units}
 use Rattle.followed.proofs.EntriesRun.{entries}
 use Rattle.followed.proofs.RangedRun.{header, blockKnown, spans}
+use Rattle.followed.proofs.SummaryRun.{summary-size}
 use Rattle.followed.proofs.KindLaws.{kind-type, rle-not-times}
 use Rattle.followed.proofs.CheckLaws.{rule-fine}
 
@@ -142,6 +144,11 @@ module _ (a b c d : ℕ) (y : Bytes (header a b c d)) (announced : ℕ) where
       with-start (opening (opened kn size behind whose 4) bs) (ending announced size behind bs)
       (map Entry (entriesOf (hd ++ take size bs)))
       (rw n at (units entries (size / 12) 0 kn (record {}) behind bs u))
+  inner (AKind Statistics) e f behind bs u =
+      let l : blockLength hd ≡ 40 = eqb-true _ _ (rule-fine (eqb (blockLength hd) 40) 40 (blockLength hd) f) in
+      let v = hd ++ take size bs in
+      with-start (opening (opened kn size behind sums 8) bs) (ending announced size behind bs)
+      (from 40 v (Summed (summaryAt v) ∷ [])) (summary-size a b c d y announced behind size bs u (omega arith))
   inner NoKind e f behind bs u =
       with-start (opening (opened kn size behind skipped size) bs) (ending announced size behind bs) []
       (skipped-run kn size behind bs)

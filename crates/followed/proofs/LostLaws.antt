@@ -21,7 +21,7 @@ use Rattle.utils.proofs.ClearLaws.{clear-fine, fine-clear, has-nil, has-here, h
 use Rattle.def_refusals.specs.declared.Checked.the-variants.{Fine}
 use Rattle.def_wire.specs.declared.Ranged.{Ranged}
 use Rattle.def_wire.specs.declared.Ranged.the-variants.{Chunks, Times}
-use Rattle.def_wire.specs.declared.Kind.the-variants.{Spans, Clock, Echoes}
+use Rattle.def_wire.specs.declared.Kind.the-variants.{Spans, Clock, Echoes, Statistics}
 use Rattle.def_wire.specs.declared.KindOr.{KindOr}
 use Rattle.def_wire.specs.declared.KindOr.the-variants.{AKind, NoKind}
 use Rattle.def_wire.specs.Bytes.{words16, words32, pairUp}
@@ -142,4 +142,5 @@ module _ (v : List ℕ) (c : Course) where
   whole-then (AKind (Spans Times)) h f = refl
   whole-then (AKind Clock) h f = refl
   whole-then (AKind Echoes) h f = refl
+  whole-then (AKind Statistics) h f = refl
   whole-then NoKind h f = refl

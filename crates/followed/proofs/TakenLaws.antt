@@ -22,6 +22,7 @@ use Rattle.states.specs.Call.{announcedBy, takenIn}
 use Rattle.states.proofs.RunLaws.{after-closed}
 use Rattle.followed.proofs.ItemRun.{not-zero}
 use Rattle.followed.proofs.InnerLaws.{at-fields, at-word, at-time, at-whose, at-echo, at-clock, at-skipped}
+use Rattle.followed.proofs.InnerLaws.{at-sums, at-hops}
 use Rattle.followed.proofs.GoingLaws.{Item, at-sender, at-block, in-block, Counts, Going, asks, ended}
 use Rattle.followed.proofs.GoingLaws.{passed-by}
 
@@ -102,6 +103,8 @@ item-past item rest (in-block (at-time i r)) = rw i
 item-past item rest (in-block (at-whose i r)) = rw i
 item-past item rest (in-block (at-echo i r)) = rw i
 item-past item rest (in-block (at-clock i r)) = rw i
+item-past item rest (in-block (at-sums i r)) = rw i
+item-past item rest (in-block (at-hops i r)) = rw i
 item-past item rest (in-block (at-skipped i r)) = rw i
 
 -- how many bytes were taken, and how many the header announces

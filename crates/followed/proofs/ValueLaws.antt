@@ -101,7 +101,7 @@ module _ (item : ℕ) (o : eqb item skipped ≡ false) where
       let j : b < 256 = y 1 in
       rw (held-cons 0 a (b ∷ []) (omega arith), held-cons (0 * 256 + a) b [] (omega arith)) (omega arith))
 
-  held-four : (s : List ℕ) → length s ≡ 4 → Bytes s → heldOver item 0 s ≡ be32 s 0
+  pub held-four : (s : List ℕ) → length s ≡ 4 → Bytes s → heldOver item 0 s ≡ be32 s 0
   unfolding heldOver
   held-four =
       by-four (λ s. Bytes s → heldOver item 0 s ≡ be32 s 0)

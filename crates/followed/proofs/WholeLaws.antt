@@ -18,7 +18,7 @@ use Rattle.def_wire.specs.declared.Reading.the-variants.{Standard}
 use Rattle.def_wire.specs.declared.Ranged.{Ranged}
 use Rattle.def_wire.specs.declared.Ranged.the-variants.{Chunks, Times}
 use Rattle.def_wire.specs.declared.Kind.{Kind}
-use Rattle.def_wire.specs.declared.Kind.the-variants.{Spans, Clock, Echoes}
+use Rattle.def_wire.specs.declared.Kind.the-variants.{Spans, Clock, Echoes, Statistics}
 use Rattle.def_wire.specs.declared.KindOr.{KindOr}
 use Rattle.def_wire.specs.declared.KindOr.the-variants.{AKind, NoKind}
 use Rattle.def_wire.specs.Bytes.{byteAt}
@@ -26,6 +26,7 @@ use Rattle.def_wire.specs.Packet.{versionOf, isPadded, announcedOf, ssrcOf, pad
 use Rattle.def_wire.specs.Packet.{lengthAt, placeOf, walkFrom, part}
 use Rattle.def_wire.specs.Block.{typeOf, blockLength, kindOf, standardRule, fitness, checkOf, fieldsOf, timeOf}
 use Rattle.def_wire.specs.Block.{wordsAt, clearRule, wordRule}
+use Rattle.def_wire.specs.Summary.{summaryOf}
 use Rattle.def_questions.specs.Questions.{numbersShown, pairsShown, entriesShown}
 use Rattle.def_portions.specs.declared.Event.{Event}
 use Rattle.def_portions.specs.declared.Event.the-variants.{Header, End}
@@ -56,6 +57,7 @@ fit-clear (AKind (Spans (Chunks a))) v f =
 fit-clear (AKind (Spans Times)) v f = refl
 fit-clear (AKind Clock) v f = refl
 fit-clear (AKind Echoes) v f = refl
+fit-clear (AKind Statistics) v f = refl
 fit-clear NoKind v f = refl
 
 check-fine : (k : Kind) (v : List ℕ) → kindOf (typeOf v) ≡ AKind k → fitness Standard k v ≡ Fine
@@ -75,12 +77,21 @@ clock-long v f =
     let l : length v ≡ 12 = eqb-true _ _ r in
     le-leb 12 (length v) (omega arith)
 
+-- forty bytes, where a rule asks for so many
+summary-long : (v : List ℕ) → fitness Standard Statistics v ≡ Fine → leb 40 (length v) ≡ true
+unfolding standardRule
+summary-long v f =
+    let r = rule-fine (eqb (length v) 40) 40 (length v) (fit-length (AKind Statistics) v f) in
+    let l : length v ≡ 40 = eqb-true _ _ r in
+    le-leb 40 (length v) (omega arith)
+
 kind-events : (kd : KindOr) (v : List ℕ) → kindOf (typeOf v) ≡ kd → fitAs kd v ≡ Fine → kindEvents kd v ≡ kindPart kd v
-unfolding kindEvents kindPart fieldsOf timeOf numbersShown pairsShown entriesShown
+unfolding kindEvents kindPart fieldsOf timeOf summaryOf numbersShown pairsShown entriesShown
 kind-events (AKind (Spans (Chunks a))) v e f = rw (check-fine (Spans (Chunks a)) v e f, spans-long (Chunks a) v f)
 kind-events (AKind (Spans Times)) v e f = rw (check-fine (Spans Times) v e f, spans-long Times v f)
 kind-events (AKind Clock) v e f = rw (check-fine Clock v e f, clock-long v f)
 kind-events (AKind Echoes) v e f = rw (check-fine Echoes v e f)
+kind-events (AKind Statistics) v e f = rw (check-fine Statistics v e f, summary-long v f)
 kind-events NoKind v e f = refl
 
 -- a block that is fit to be read

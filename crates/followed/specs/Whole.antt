@@ -11,19 +11,22 @@ use Rattle.def_refusals.specs.declared.Checked.the-variants.{Fine}
 use Rattle.def_refusals.specs.Answers.{Or, shown, refused}
 use Rattle.def_wire.specs.declared.Reading.the-variants.{Standard}
 use Rattle.def_wire.specs.declared.Ranged.the-variants.{Chunks, Times}
-use Rattle.def_wire.specs.declared.Kind.the-variants.{Spans, Clock, Echoes}
+use Rattle.def_wire.specs.declared.Kind.the-variants.{Spans, Clock, Echoes, Statistics}
 use Rattle.def_wire.specs.declared.KindOr.{KindOr}
 use Rattle.def_wire.specs.declared.KindOr.the-variants.{AKind, NoKind}
 use Rattle.def_wire.specs.declared.FieldsOr.{FieldsOr}
 use Rattle.def_wire.specs.declared.FieldsOr.the-variants.{Shown, NoneOf}
 use Rattle.def_wire.specs.declared.TimeOr.{TimeOr}
 use Rattle.def_wire.specs.declared.TimeOr.the-variants.{Time, NoTime}
+use Rattle.def_wire.specs.declared.SummaryOr.{SummaryOr}
+use Rattle.def_wire.specs.declared.SummaryOr.the-variants.{Stated, NoSummary}
 use Rattle.def_wire.specs.Packet.{announcedOf, ssrcOf, lengthAt, placeOf, part}
 use Rattle.def_wire.specs.Block.{typeOf, blockLength, kindOf, fitness, fieldsOf, timeOf}
+use Rattle.def_wire.specs.Summary.{summaryOf}
 use Rattle.def_questions.specs.Questions.{numbersShown, pairsShown, entriesShown}
 use Rattle.def_portions.specs.declared.Event.{Event}
 use Rattle.def_portions.specs.declared.Event.the-variants.{Header, Ranged as RangedStart, Number, Pair, Entry, End}
-use Rattle.def_portions.specs.declared.Event.the-variants.{Time as TimeEvent}
+use Rattle.def_portions.specs.declared.Event.the-variants.{Time as TimeEvent, Summed}
 use Rattle.def_portions.specs.Events.{startOf}
 
 abbrev pub viewOf : List ℕ → ℕ → List ℕ
@@ -51,12 +54,17 @@ abbrev pub timePart : TimeOr → List Event
 timePart (Time t) = TimeEvent t ∷ []
 timePart (NoTime x) = []
 
+abbrev pub summaryPart : SummaryOr → List Event
+summaryPart (Stated s) = Summed s ∷ []
+summaryPart (NoSummary x) = []
+
 unfoldable pub kindPart : KindOr → List ℕ → List Event
 kindPart (AKind (Spans (Chunks a))) v =
     rangedPart v (fieldsOf Standard (Chunks a) v) (listOf Number (numbersShown Standard a v))
 kindPart (AKind (Spans Times)) v = rangedPart v (fieldsOf Standard Times v) (listOf Pair (pairsShown Standard v))
 kindPart (AKind Clock) v = startOf v ∷ timePart (timeOf Standard v)
 kindPart (AKind Echoes) v = startOf v ∷ listOf Entry (entriesShown Standard v)
+kindPart (AKind Statistics) v = startOf v ∷ summaryPart (summaryOf Standard v)
 kindPart NoKind v = startOf v ∷ []
 
 abbrev pub partOf : List ℕ → List Event

@@ -8,12 +8,14 @@ use Rattle.records.proofs.DuplicateRle.new.Reads as DuplicateRle-new
 use Rattle.records.proofs.PacketReceiptTimes.new.Reads as PacketReceiptTimes-new
 use Rattle.records.proofs.ReceiverReferenceTime.new.Reads as ReceiverReferenceTime-new
 use Rattle.records.proofs.DelaySinceLastReceiverReport.new.Reads as DelaySinceLastReceiverReport-new
+use Rattle.records.proofs.StatisticsSummary.new.Reads as StatisticsSummary-new
 use Rattle.records.proofs.rle_type.Reads as rle-type
 use Rattle.records.proofs.ranged_type.Reads as ranged-type
 use Rattle.records.proofs.kind_type.Reads as kind-type
 use Rattle.records.proofs.rle_of.Reads as rle-of
 use Rattle.records.proofs.ranged_of.Reads as ranged-of
 use Rattle.records.proofs.kind_of.Reads as kind-of
+use Rattle.records.proofs.kind_in.Reads as kind-in
 
 pub LossRle-new-unique-fields : (κs : Lfts 0) → Fixes (LossRle-new.Post κs) (λ r s. r .fields)
 LossRle-new-unique-fields κs a r₁ r₂ s₁ s₂ p q = p ∙ sym q
@@ -30,6 +32,9 @@ ReceiverReferenceTime-new-unique-time κs a r₁ r₂ s₁ s₂ p q = p ∙ sym 
 pub DelaySinceLastReceiverReport-new-unique-entries : (κs : Lfts 0)
     → Fixes (DelaySinceLastReceiverReport-new.Post κs) (λ r s. r .entries)
 DelaySinceLastReceiverReport-new-unique-entries κs a r₁ r₂ s₁ s₂ p q = p ∙ sym q
+
+pub StatisticsSummary-new-unique-summary : (κs : Lfts 0) → Fixes (StatisticsSummary-new.Post κs) (λ r s. r .summary)
+StatisticsSummary-new-unique-summary κs a r₁ r₂ s₁ s₂ p q = p ∙ sym q
 
 pub rle-type-unique : (κs : Lfts 0) → Fixes (rle-type.Post κs) (λ r s. r)
 rle-type-unique κs a r₁ r₂ s₁ s₂ p q = p ∙ sym q
@@ -48,3 +53,6 @@ ranged-of-unique κs a r₁ r₂ s₁ s₂ p q = p ∙ sym q
 
 pub kind-of-unique : (κs : Lfts 0) → Fixes (kind-of.Post κs) (λ r s. r)
 kind-of-unique κs a r₁ r₂ s₁ s₂ p q = p ∙ sym q
+
+pub kind-in-unique : (κs : Lfts 0) → Fixes (kind-in.Post κs) (λ r s. r)
+kind-in-unique κs a r₁ r₂ s₁ s₂ p q = p ∙ sym q

@@ -20,7 +20,7 @@ use Rattle.def_wire.specs.declared.Reading.the-variants.{Standard}
 use Rattle.def_wire.specs.declared.Rle.{Rle}
 use Rattle.def_wire.specs.declared.Ranged.the-variants.{Chunks, Times}
 use Rattle.def_wire.specs.declared.Kind.{Kind}
-use Rattle.def_wire.specs.declared.Kind.the-variants.{Spans, Clock, Echoes}
+use Rattle.def_wire.specs.declared.Kind.the-variants.{Spans, Clock, Echoes, Statistics}
 use Rattle.def_wire.specs.Block.{wordsAt, rule, standardRule, lostRun, has, clearRule, wordRule, fitness}
 
 pub then-fine : (x : Checked) → thenCheck x Fine ≡ x
@@ -46,6 +46,10 @@ module _ (v : List ℕ) where
   pub fit-echoes : fitness Standard Echoes v ≡ standardRule Echoes (length v)
   unfolding fitness
   fit-echoes = then-fine (standardRule Echoes (length v))
+
+  pub fit-statistics : fitness Standard Statistics v ≡ standardRule Statistics (length v)
+  unfolding fitness
+  fit-statistics = then-fine (standardRule Statistics (length v))
 
   -- a good length, and clear words
   pub fit-fine : (k : Kind) → standardRule k (length v) ≡ Fine → wordRule k (length v) v ≡ Fine

@@ -20,8 +20,14 @@ returns-3 c = let k = c .before in
     let a = k .before .before .before .args in
     c .check-echoes .ensures ∙ sym (ap (λ h. checkOf (a .r) h (a .v .now)) (k .enum-told2 .given .1))
 
+returns-4 : tie.Need-returns-4
+returns-4 c = let k = c .before in
+    let a = k .before .before .before .args in
+    c .check-statistics .ensures ∙ sym (ap (λ h. checkOf (a .r) h (a .v .now)) (k .enum-told3 .given .1))
+
 pub check-spec : {M : Type 1} → statement M
 check-spec =
     tie.close
     (tie.spec (λ c. search needs) (λ c κs. search needs) (λ c. search needs) (λ c κs. search needs)
-    (λ c. search needs) (λ c κs. search needs) returns returns-2 returns-3)
+    (λ c. search needs) (λ c κs. search needs) (λ c. search needs) (λ c κs. search needs) returns returns-2 returns-3
+    returns-4)
