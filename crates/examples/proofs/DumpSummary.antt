@@ -5,7 +5,7 @@ use Rattle.def_wire.specs.Bytes.{pairUp}
 use Rattle.def_wire.specs.Packet.{headerOf, placeOf, walkFrom, countOf, locate}
 use Rattle.def_wire.specs.Block.{rleOf, rangedOf, kindOf, standardRule, crateRule, fitness, checkOf, has, clearRule}
 use Rattle.def_wire.specs.Summary.{summaryFrom, summaryOf}
-use Rattle.def_text.specs.Numerals.{decimalWithin, spacedAll}
+use Rattle.def_text.specs.Numerals.{decimalWithin}
 use Rattle.def_dump.specs.Lines.{refusedLine, blockLine}
 use Rattle.def_dump.specs.Summaries.{spanText, countsText, jitterText, hopsText, summaryParts}
 use Rattle.def_dump.specs.Dump.{contentsOf, blockText, blocksText, readingText, dumpText}
@@ -14,8 +14,8 @@ use Rattle.examples.specs.DumpSummary.{Lines, Dumps}
 
 pub lines-hold : Lines
 unfolding numbered pairUp headerOf placeOf walkFrom countOf locate rleOf rangedOf kindOf standardRule crateRule
-    fitness checkOf has clearRule summaryFrom summaryOf decimalWithin spacedAll refusedLine blockLine spanText
-    countsText jitterText hopsText summaryParts contentsOf blockText blocksText readingText dumpText eventLine
+    fitness checkOf has clearRule summaryFrom summaryOf decimalWithin refusedLine blockLine spanText countsText
+    jitterText hopsText summaryParts contentsOf blockText blocksText readingText dumpText eventLine
 lines-hold =
     record {
       span = (refl, refl);
@@ -29,8 +29,8 @@ lines-hold =
 
 pub dumps-hold : Dumps
 unfolding numbered pairUp headerOf placeOf walkFrom countOf locate rleOf rangedOf kindOf standardRule crateRule
-    fitness checkOf has clearRule summaryFrom summaryOf decimalWithin spacedAll refusedLine blockLine spanText
-    countsText jitterText hopsText summaryParts contentsOf blockText blocksText readingText dumpText eventLine
+    fitness checkOf has clearRule summaryFrom summaryOf decimalWithin refusedLine blockLine spanText countsText
+    jitterText hopsText summaryParts contentsOf blockText blocksText readingText dumpText eventLine
 dumps-hold =
     record {
       stated = (refl, refl);

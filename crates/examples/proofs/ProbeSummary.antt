@@ -13,7 +13,7 @@ use Rattle.def_jobs.specs.Layout.{blockBytes, blocksBytes, layoutOf}
 use Rattle.def_jobs.specs.Writing.{misleadingFrom, writeFault, packetOf}
 use Rattle.def_portions.specs.Events.{headFault, blockFault, kindEvents, clearWords, kindThen, blocksFrom, courseOf}
 use Rattle.def_portions.specs.Calls.{pastFault, callOf}
-use Rattle.def_text.specs.Numerals.{decimalWithin, hexesOf, spacedAll}
+use Rattle.def_text.specs.Numerals.{decimalWithin, hexesOf}
 use Rattle.def_dump.specs.Lines.{refusalLine, packetLine}
 use Rattle.def_dump.specs.Summaries.{spanText, countsText, jitterText, hopsText, summaryParts}
 use Rattle.def_dump.specs.EventLines.{eventLine, eventLines, givenLine}
@@ -27,9 +27,9 @@ unfolding numbered pairUp headerOf placeOf walkFrom countOf locate rleOf rangedO
     fitness checkOf fieldsOf has clearRule summaryFrom summaryOf fieldsAsked summaryAsked numbersBy fieldsBy pairLow
     jobsFrom isHeaderJob isBlockJob jobsFault blockBytes blocksBytes layoutOf misleadingFrom writeFault packetOf
     headFault blockFault kindEvents clearWords kindThen blocksFrom courseOf pastFault callOf decimalWithin hexesOf
-    spacedAll refusalLine packetLine spanText countsText jitterText hopsText summaryParts eventLine eventLines
-    givenLine lineIn numbersText numbersReply shownText shownReply writtenText writtenReply sizesAt callsText
-    portionsText portionsReply summaryText summaryReply answerTo
+    refusalLine packetLine spanText countsText jitterText hopsText summaryParts eventLine eventLines givenLine lineIn
+    numbersText numbersReply shownText shownReply writtenText writtenReply sizesAt callsText portionsText
+    portionsReply summaryText summaryReply answerTo
 of-requests-hold =
     record {
       summaries = (refl, refl);
