@@ -5,10 +5,11 @@ lists(draw, count)     job lists, drawn at random; some padded, damaged or at th
 edges(draw, count)     records of so many blocks at an edge, and some more
 
 An edge: the first one outside a range stands at its end or a little behind it, and by a run or a vector that begins
-before it, there, or later; as many times as a range has positions, or nearly; few bytes behind times and entries.
+before it, there, or later; as many times as a range has positions, or nearly; few bytes behind times and entries, or
+the 40 of a summary.
 """
 from jobs import job_list
-from model_cases import CLOCK, cleared, dlrr, header, rle, times
+from model_cases import CLOCK, FLAGS, any_summary, cleared, dlrr, header, rle, summed, times
 from readings import Range
 from scale_lists import EDGES, FAR, LOST, damaged, largest
 from scale_lists import header as any_header
@@ -46,7 +47,9 @@ def edges(draw, count):
 
 
 def any_edge(draw):
-    kind = draw.choice((1, 1, 2, 2, 3, 3, 4, 5, 5, 5))
+    kind = draw.choice((1, 1, 2, 2, 3, 3, 4, 5, 5, 5, 6))
+    if kind == 6:
+        return any_summary(draw)
     if kind == 4:
         return 4, draw.choice((0, 2**64 - 1, draw.getrandbits(64)))
     if kind == 5:
@@ -120,9 +123,12 @@ def chosen():
                     yield [header(), rle([0x4000 | count], begin, end, thinning)]
                     yield [header(), times(list(range(count)), begin, end, thinning), dlrr(0)]
     for behind in ([], [dlrr(0)], [dlrr(0)] * 2, [dlrr(0)] * 3, [CLOCK], [rle([], 1, 2)], [dlrr(1)], [CLOCK] * 2,
-                   [rle([1, 2, 3], 0, 0)]):
+                   [rle([1, 2, 3], 0, 0)], [summed(232)], [summed(0), CLOCK]):
         for count in 0, 1, 2, 4, 5, 9:
             yield [header(), dlrr(count), *behind]
         for end in 7, 8, 9:
             yield [header(), times([1, 2], 5, end), *behind]
         yield [header(), CLOCK, *behind, times([1, 2, 3], 5, 5, 15)]
+    for flags in FLAGS:
+        yield [header(), summed(flags)]
+    yield [header(), summed(128), summed(64), rle([16386, 16385], 10, 12)]

@@ -2,7 +2,7 @@
 from itertools import islice
 
 from lists import entries_of, numbers_of, pairs_of
-from readings import CRATE, STANDARD, Refusal, check_fit, fields_of, time_of, walk
+from readings import CRATE, STANDARD, Refusal, check_fit, fields_of, summary_of, time_of, walk
 
 DUMP_PACKET = 65536     # the longest packet that the dump takes, in bytes
 DUMP_LIST = 16384       # the longest list that it shows, in items
@@ -36,6 +36,8 @@ def block_lines(block):
         return [f"time {time_of(block)}"]
     if block.kind == 5:
         return [list_line("entries", entries_of(block))]
+    if block.kind == 6 and block.reading == STANDARD:
+        return summary_lines(summary_of(block))
     return []
 
 
@@ -45,6 +47,14 @@ def fields_line(block):
     except Refusal as refusal:
         return f"refused {refusal.args[0]}"
     return f"ssrc {r.ssrc} begin {r.begin} end {r.end} thinning {r.thinning}"
+
+
+def summary_lines(s):
+    def said(numbers):
+        return "absent" if numbers is None else " ".join(map(str, flattened(numbers)))
+
+    return [f"ssrc {s.ssrc} begin {s.begin} end {s.end}", f"lost {said(s.lost)} duplicates {said(s.duplicates)}",
+            f"jitter {said(s.jitter)}", f"{('ttl', 'ttl', 'hops', 'toh 3')[s.toh]} {said(s.hops)}"]
 
 
 def list_line(word, items):

@@ -1,15 +1,16 @@
 """Job lists and writing, as RULES has them.
 
-record   ("header", ssrc, padding), or (kind, Range, words or times), (4, time), (5, entries)
+record   ("header", ssrc, padding), or (kind, Range, words or times), (4, time), (5, entries), (6, flags, numbers)
 asked    what a record asks to be shown: the standard reading of its own words
-shown    what a reading shows of a block: fields, numbers, times, entries; not the chunk words
+shown    what a reading shows of a block: fields, numbers, times, entries, summaries; not the chunk words
 
 Checks stand in RULES' order: 12, 14, 15, 11.
 """
 from itertools import islice
 
 from lists import entries_of, is_inside, number, numbers_of, pairs_of, standard_numbers
-from readings import CRATE, LOST_RUN, RLE, Range, Refusal, check_fit, fields_of, question, refuse, time_of, walk
+from readings import (CRATE, LOST_RUN, RLE, SUMMARY_SIZES, Range, Refusal, check_fit, fields_of, question, refuse,
+                      summary_from, time_of, walk)
 
 MOST_BLOCKS = 31
 MOST_BYTES = 262144
@@ -66,6 +67,12 @@ def parsed(kind, body):
         return 4, le(body, 0, 8)
     if kind == 5 and len(body) % 12 == 0:
         return 5, [tuple(le(body, at + k, 4) for k in (0, 4, 8)) for at in range(0, len(body), 12)]
+    if kind == 6 and len(body) == 38 and body[1] == 0 and body[0] & 7 == 0 and body[0] & 24 != 24:
+        numbers, at = [], 2
+        for size in SUMMARY_SIZES:
+            numbers.append(le(body, at, size))
+            at += size
+        return 6, body[0], tuple(numbers)
     return None
 
 
@@ -88,6 +95,8 @@ def job_list(found):
             return record(4, some(8, r[1]))
         if r[0] == 5:
             return record(5, b"".join(some(4, *entry) for entry in r[1]))
+        if r[0] == 6:
+            return record(6, bytes([r[1], 0]) + b"".join(some(size, n) for size, n in zip(SUMMARY_SIZES, r[2])))
         kind, (ssrc, begin, end, thinning), items = r
         return record(kind, some(4, ssrc) + some(2, begin, end, thinning)
                       + some(4 if kind == 3 else 2, *items))
@@ -103,6 +112,8 @@ def body_of(record, careful):
         return record[1].to_bytes(8, "big")
     if record[0] == 5:
         return b"".join(x.to_bytes(4, "big") for entry in record[1] for x in entry)
+    if record[0] == 6:
+        return b"".join(n.to_bytes(size, "big") for size, n in zip(SUMMARY_SIZES, record[2]))
     kind, r, items = record
     body = r.ssrc.to_bytes(4, "big") + r.begin.to_bytes(2, "big") + r.end.to_bytes(2, "big")
     if kind == 3:
@@ -116,6 +127,13 @@ def added_words(words, careful):
     return [0, 0] if careful and words and words[-1] != 0 else []
 
 
+def specific_of(record):
+    """The thinning, the flags of a summary, or nothing."""
+    if record[0] == 6:
+        return record[1]
+    return record[1].thinning if record[0] in (1, 2, 3) else 0
+
+
 def layout(found, careful):
     """The packet of these records."""
     (_, ssrc, padding), *blocks = found
@@ -126,19 +144,18 @@ def layout(found, careful):
     packet = bytes([0x80 | (0x20 if padding else 0), 207]) + (size // 4 - 1).to_bytes(2, "big")
     packet += ssrc.to_bytes(4, "big")
     for record, body in zip(blocks, bodies):
-        specific = record[1].thinning if record[0] in (1, 2, 3) else 0
-        packet += bytes([record[0], specific]) + (len(body) // 4).to_bytes(2, "big") + body
+        packet += bytes([record[0], specific_of(record)]) + (len(body) // 4).to_bytes(2, "big") + body
     return packet + bytes(padding - 1) + bytes([padding]) if padding else packet
 
 
 # Misled (refusal 15), by the literal definition
 
 def asked(record):
-    """(fields, list), time or entries."""
-    if record[0] == 4:
+    """(fields, list), time, entries or summary."""
+    if record[0] in (4, 5):
         return record[1]
-    if record[0] == 5:
-        return record[1]
+    if record[0] == 6:
+        return summary_from(*record[1:])
     kind, r, items = record
     if kind == 3:
         return r, [(number(p, r), t) for p, t in enumerate(items) if is_inside(p, r)]
@@ -146,8 +163,11 @@ def asked(record):
 
 
 def shown(block, most):
-    """The same of a block in a packet, its list no further than `most` items."""
+    """The same of a block in a packet, as the crate reads it, its list no further than `most` items. Type and length
+    only, as of a summary, are None."""
     check_fit(block)
+    if block.kind == 6:
+        return None
     if block.kind == 4:
         return time_of(block)
     if block.kind == 5:
@@ -169,7 +189,7 @@ def shows_other(block, wanted):
     # One item past what was asked for is enough to tell two lists apart.
     most = len(wanted[1]) + 1 if block.kind in (1, 2, 3) else None
     try:
-        return shown(block, most) != wanted
+        return shown(block, most) not in (None, wanted)
     except Refusal:
         return False
 

@@ -1,6 +1,6 @@
 """Short ways to make records and packets for the model's checks, and seeded ones."""
 from jobs import holds_lost, job_list, layout, write
-from readings import CRATE, LOST_RUN, STANDARD, Range
+from readings import CRATE, LOST_RUN, STANDARD, SUMMARY_SIZES, Range
 
 
 def header(padding=0):
@@ -19,7 +19,14 @@ def dlrr(n):
     return 5, [(100 + i, 200 + i, 300 + i) for i in range(n)]
 
 
+def summed(flags, *numbers):
+    """A summary with these flags; SSRC, begin, end and all numbers where none are given."""
+    return 6, flags, numbers or NUMBERS
+
+
 CLOCK = (4, 0x0102030405060708)
+NUMBERS = (7, 10, 14, 0x21222324, 0x31323334, 0x41424344, 0x51525354, 0x61626364, 0x71727374, 0x81, 0x82, 0x83, 0x84)
+FLAGS = [flags for flags in range(0, 256, 8) if flags & 24 != 24]       # of good records
 
 
 def plain(*blocks, padding=0):
@@ -52,8 +59,16 @@ def any_word(draw):
                         0x4000 | draw.randrange(30), 0x8000 | draw.randrange(32768)])
 
 
+def any_summary(draw):
+    """Flags of a good record; numbers at random, or all 0 or all ones."""
+    numbers = [draw.choice((0, 256**size - 1, draw.getrandbits(8 * size))) for size in SUMMARY_SIZES]
+    return 6, draw.choice(FLAGS), tuple(numbers)
+
+
 def any_block(draw):
-    kind = draw.randrange(1, 6)
+    kind = draw.randrange(1, 7)
+    if kind == 6:
+        return any_summary(draw)
     if kind == 4:
         return 4, draw.getrandbits(64)
     if kind == 5:

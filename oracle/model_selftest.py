@@ -9,10 +9,10 @@ from jobs import job_list, layout, lost_record, misled, records, write
 from lists import (covers, crate_count, crate_numbers, cursor, entries, first_failure, is_inside,
                    make_word, moved, numbers, offset_sequence, pairs, values, words)
 from marks import misfit, words_from_marks
-from model_cases import (CLOCK, any_block, any_marks, any_range, any_word, both, careful, cleared, dlrr, h, header,
-                         plain, rle, times)
+from model_cases import (CLOCK, FLAGS, NUMBERS, any_block, any_marks, any_range, any_summary, any_word, both, careful,
+                         cleared, dlrr, h, header, plain, rle, summed, times)
 from portions import told
-from readings import CRATE, STANDARD, Range, fields, is_refused, time, view, whole
+from readings import (CRATE, STANDARD, Range, Summary, fields, is_refused, summary, summary_from, time, view, whole)
 
 FAILED = []
 CHECKS = [0]
@@ -28,7 +28,7 @@ def expect(name, found, wanted):
 def run():
     for test in (examples, header_facts, block_facts, list_facts, cursor_facts, word_facts,
                  job_facts, misled_facts, misled_rules, mark_facts, mark_turns, portion_facts, dump_facts, lost_facts,
-                 lost_turns):
+                 lost_turns, summary_facts, summary_jobs, summary_turns):
         test()
     print(f"{CHECKS[0]} checks, {len(FAILED)} failed")
     return 1 if FAILED else 0
@@ -198,7 +198,7 @@ def word_facts():
 
 def job_facts():
     good = job_list([header(), CLOCK])
-    some = [header(8), CLOCK, rle([1, 2, 3], 4, 5, 6, 2), times([7], 8, 9), dlrr(2)]
+    some = [header(8), CLOCK, rle([1, 2, 3], 4, 5, 6, 2), times([7], 8, 9), dlrr(2), summed(232)]
     expect("records come back", records(job_list(some)), some)
     expect("empty list", write(b"", False), ("refused", 12, 0, 0))
     for n in range(1, len(job_list([header()]))):
@@ -210,7 +210,7 @@ def job_facts():
            ("refused", 12, 2, 0))
     expect("body near 2^32", write(job_list([header()]) + h("ffffffff 0400") + bytes(8), False),
            ("refused", 12, 1, 0))
-    fits = {1: range(10, 60, 2), 2: range(10, 60, 2), 3: range(10, 60, 4), 4: [8], 5: range(0, 60, 12)}
+    fits = {1: range(10, 60, 2), 2: range(10, 60, 2), 3: range(10, 60, 4), 4: [8], 5: range(0, 60, 12), 6: [38]}
     for kind in list(range(8)) + [256, 65535]:
         for size in range(60):
             record = size.to_bytes(4, "little") + kind.to_bytes(2, "little") + bytes(size)
@@ -279,12 +279,12 @@ def misled_rules():
             if b[0] in (1, 2):
                 lists = both(numbers, layout([header(), b], True), 0, b[0])
                 expect("standard is a prefix of crate", lists[1][:len(lists[0])], lists[0])
-    expect("kinds met", seen, {(k, m) for k in (1, 2, 3, 4, 5) for m in (True, False)} - {(4, True)})
+    expect("kinds met", seen, {(k, m) for k in range(1, 7) for m in (True, False)} - {(4, True), (6, True)})
 
 
 def rule_misleads(block, behind):
     kind = block[0]
-    if kind == 4:
+    if kind in (4, 6):
         return False
     if kind == 5:
         return len(block[1]) % 4 == 1 and behind >= 12
@@ -477,3 +477,92 @@ def lost_turns():
         before, after = (told(2**32, [byte - 1], some).splitlines() for some in (packet, spoilt))
         until = next(k for k, line in enumerate(before) if line.startswith("taken ")) + 1
         expect("events up to it", after, before[:until] + [f"refused 7 12 {length}"])
+
+
+FULL = Summary(7, 10, 14, *NUMBERS[3:5], NUMBERS[5:9], 1, NUMBERS[9:])
+SUMMED = h("80cf000b 00000001 06e80009 00000007 000a000e 21222324 31323334 41424344 51525354 61626364 71727374 81828384")
+
+
+def flagged(flags):
+    """SUMMED with other flags."""
+    return SUMMED[:9] + bytes([flags]) + SUMMED[10:]
+
+
+def sized(length):
+    """A packet of one type 6 block of so many bytes."""
+    return h("80cf") + (1 + length // 4).to_bytes(2, "big") + h("00000001 06e8") + (length // 4 - 1).to_bytes(2, "big") \
+        + bytes(length - 4)
+
+
+def summary_facts():
+    expect("a summary", summary(SUMMED, STANDARD, 0), FULL)
+    expect("a summary, flags clear", summary(flagged(0), STANDARD, 0), Summary(7, 10, 14, None, None, None, 0, None))
+    for flags in range(256):
+        toh = flags // 8 % 4
+        found = summary(flagged(flags), STANDARD, 0)
+        expect("L", found.lost, 0x21222324 if flags >= 128 else None)
+        expect("D", found.duplicates, 0x31323334 if flags % 128 >= 64 else None)
+        expect("J", found.jitter, NUMBERS[5:9] if flags % 64 >= 32 else None)
+        expect("ToH", (found.toh, found.hops), (toh, NUMBERS[9:] if toh in (1, 2) else None))
+        expect("the span", found[:3], (7, 10, 14))
+        expect("reserved bits", found, summary(flagged(flags & 248), STANDARD, 0))
+    zero = summary(plain(summed(232, *([0] * 13))), STANDARD, 0)
+    expect("0 is not absent", zero, Summary(0, 0, 0, 0, 0, (0,) * 4, 1, (0,) * 4))
+    for length in range(4, 61, 4):
+        answer = summary(sized(length), STANDARD, 0)
+        expect("7 with 40", answer if is_refused(answer) else None, None if length == 40 else ("refused", 7, 40, length))
+        expect("the crate has no question", summary(sized(length), CRATE, 0), ("refused", 10, 6, 0))
+        expect("it walks", both(whole, sized(length)), ((1, 1),) * 2)
+    expect("9", summary(SUMMED, STANDARD, 1), ("refused", 9, 1, 0))
+    expect("10", both(summary, plain(CLOCK), 0), (("refused", 10, 4, 0),) * 2)
+    expect("no other question", [both(fields, SUMMED, 0, kind) for kind in (1, 2, 3, 6)], [(("refused", 10, 6, 0),) * 2] * 4)
+    lines = "ssrc 7 begin 10 end 14\nlost 555885348 duplicates 825373492\njitter {} {} {} {}\nttl 129 130 131 132\n"
+    expect("dump", dump(SUMMED), "reading standard\nblock 0 type 6 length 40\n" + lines.format(*NUMBERS[5:9])
+           + "reading crate\nblock 0 type 6 length 40\n")
+    for flags, last in (0, "ttl absent"), (16, "hops 129 130 131 132"), (24, "toh 3 absent"), (31, "toh 3 absent"):
+        expect("dump, by ToH", dump(flagged(flags)).splitlines()[2:6],
+               ["ssrc 7 begin 10 end 14", "lost absent duplicates absent", "jitter absent", last])
+    expect("dump, L alone", dump(flagged(128)).splitlines()[3], "lost 555885348 duplicates absent")
+    expect("dump, D alone", dump(flagged(64)).splitlines()[3], "lost absent duplicates 825373492")
+    expect("dump, another length", dump(sized(36)), "reading standard\nblock 0 type 6 length 36\nrefused 7\n"
+                                                    "reading crate\nblock 0 type 6 length 36\n")
+    line = "summary ssrc 7 begin 10 end 14; lost 555885348 duplicates absent; jitter absent; ttl absent"
+    expect("portions", told(9, [11, 1, 35, 1], flagged(128)).splitlines(),
+           ["header 48 1", "taken 11 events 1", "start 6 40", "taken 1 events 1", "taken 35 events 0", line, "end",
+            "taken 1 events 2"])
+    expect("portions, another length", told(9, [11, 1], sized(36)).splitlines(),
+           ["header 44 1", "taken 11 events 1", "refused 7 40 36", "refused 7 40 36"])
+
+
+def summary_jobs():
+    body = job_list([summed(0)])
+    for flags in range(256):
+        answer = write(job_list([header(), summed(flags)]), False)
+        expect(f"flags {flags}", answer, flagged(flags) if flags in FLAGS else ("refused", 12, 1, 0))
+    for second in range(256):
+        record = body[:7] + bytes([second]) + body[8:]
+        expect("second byte", is_refused(write(job_list([header()]) + record, False)), second != 0)
+    expect("the bytes of a record", job_list([summed(232)]),
+           h("26000000 0600 e800 07000000 0a00 0e00 24232221 34333231 44434241 54535251 64636261 74737271 81828384"))
+    for flags in FLAGS:
+        expect("both layouts", careful(summed(flags)), plain(summed(flags)))
+    two = summed(128), summed(64)
+    expect("two", [summary(careful(*two), STANDARD, i) for i in (0, 1)], [summary_from(*r[1:]) for r in two])
+    expect("an echo, then a summary", careful(dlrr(1), summed(232)), ("refused", 15, 0, 0))
+    expect("a summary, then an echo", careful(summed(232), dlrr(1)), plain(summed(232), dlrr(1)))
+    expect("times, then a summary", careful(CLOCK, times([1], 5, 9), summed(0)), ("refused", 15, 1, 0))
+    expect("as many times as are inside", careful(times([1], 5, 6), summed(0)), plain(times([1], 5, 6), summed(0)))
+    expect("words, then a summary", careful(rle([16387], 10, 14), summed(0)), plain(rle([16387], 10, 14), summed(0)))
+    expect("12 before 15", careful(dlrr(1), summed(232), summed(24)), ("refused", 12, 3, 0))
+
+
+def summary_turns():
+    """Written and read: a summary shows what its record asks, whatever stands around it."""
+    draw = random.Random(6)
+    for _ in range(400):
+        record = any_summary(draw)
+        before, behind = ([cleared(any_block(draw)) for _ in range(draw.randrange(3))] for _ in range(2))
+        for own in False, True:
+            packet = layout([header(), *before, record, *behind], own)
+            expect("read back", summary(packet, STANDARD, len(before)), summary_from(*record[1:]))
+        expect("records come back", records(job_list([header(), record])), [header(), record])

@@ -4,9 +4,10 @@ event     (byte, line): the line that xrprobe and xrfollow print, and the number
           counted from 1
 calls     each with some bytes, in order; a call says its events' lines, then `taken ..` or `refused ..`
 """
+from dump import summary_lines
 from lists import covers, is_inside, number, values
 from readings import (LOST_RUN, RLE, STANDARD, Block, Refusal, be, check_length, first_lost, has_padding, range_of,
-                      refuse, view_of)
+                      refuse, summary_of, view_of)
 
 
 def check_head(packet):
@@ -49,6 +50,8 @@ def block_events(block):
     if block.kind == 5:
         for here in range(at + 4, upto - 11, 12):
             yield here + 12, "entry {} {} {}".format(*(be(packet, here + i, 4) for i in (0, 4, 8)))
+    if block.kind == 6 and upto == at + 40:
+        yield upto, "summary " + "; ".join(summary_lines(summary_of(block)))
 
 
 def course(packet):

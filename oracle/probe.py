@@ -11,22 +11,22 @@ import subprocess
 import sys
 import tempfile
 
-from dump import dump, flattened
+from dump import dump, flattened, summary_lines
 from jobs import MOST_BYTES, write
 from lists import cursor, entries, make_word, numbers, pairs, words
 from marks import words_from_marks
 from portions import told as portions_told
-from readings import fields, is_refused, time, view, whole
+from readings import STANDARD, fields, is_refused, summary, time, view, whole
 
 ROOT = os.path.dirname(os.path.dirname(os.path.abspath(__file__)))
 LENT = 16384        # the most room that a list is lent
 LONGEST = 300000    # the longest payload, in bytes
 
-DUMP, LIST, FIELDS, CURSOR, PLAIN, CAREFUL, WORD, PARSE, WORDS, MARKS, VIEW, PORTIONS = range(1, 13)
-NUMBERS = 14
+DUMP, LIST, FIELDS, CURSOR, PLAIN, CAREFUL, WORD, PARSE, WORDS, MARKS, VIEW, PORTIONS, SUMMARY, NUMBERS = range(1, 15)
 NO_KIND = 0         # of the kinds that are none
 FORMS = {DUMP: "<", LIST: "<BIBI", FIELDS: "<BIB", CURSOR: "<IBIIIII", PLAIN: "<I", CAREFUL: "<I", WORD: "<BII",
-         PARSE: "<B", WORDS: "<BIBI", MARKS: "<I", VIEW: "<BI", PORTIONS: "<IH", NUMBERS: "<BIBI"}
+         PARSE: "<B", WORDS: "<BIBI", MARKS: "<I", VIEW: "<BI", PORTIONS: "<IH", SUMMARY: "<I",
+         NUMBERS: "<BIBI"}
 # For each kind with an asked type: the types that it serves. LIST takes no other; of the others a byte that
 # they do not serve is refused as 10 (FIELDS asks the time for 4).
 TYPES = {LIST: (1, 2, 3, 5), FIELDS: (1, 2, 3, 4), CURSOR: (1, 2), WORDS: (1, 2), NUMBERS: (1, 2)}
@@ -163,6 +163,10 @@ def portions_answer(given, behind):
     return portions_told(min(room, LENT), struct.unpack_from(f"<{count}I", behind), behind[4 * count:])
 
 
+def summary_answer(given, packet):
+    return told(summary(packet, STANDARD, *given), lambda found: "\n".join(summary_lines(found)))
+
+
 def parse_answer(given, packet):
     return told(whole(packet, *given), lambda found: "blocks {} ssrc {}".format(*found))
 
@@ -175,7 +179,7 @@ def view_answer(given, packet):
 ANSWERS = {DUMP: lambda _, packet: dump(packet), LIST: list_answer, FIELDS: fields_answer,
            CURSOR: cursor_answer, PLAIN: written_answer(False), CAREFUL: written_answer(True), WORD: word_answer,
            PARSE: parse_answer, WORDS: words_answer, MARKS: marks_answer, VIEW: view_answer,
-           PORTIONS: portions_answer, NUMBERS: numbers_answer}
+           PORTIONS: portions_answer, SUMMARY: summary_answer, NUMBERS: numbers_answer}
 
 
 def run_answer(data):

@@ -3,8 +3,10 @@
 packet   bytes; a reading is STANDARD or CRATE
 block    a Block: where it starts, its length L, and what is left to the packet's end
 range    a Range: SSRC, begin, end, thinning T
+summary  a Summary: SSRC, begin, end, lost, duplicates, four numbers of jitter, ToH, four of TTL or hop limit; None is
+         a number, or four of them, that is absent
 
-This file has the packet, the walk, and a block's view, fields and time; lists.py has the rest.
+This file has the packet, the walk, and a block's view, fields, time and summary; lists.py has the rest.
 A function marked @question gives its answer, or ("refused", number, value, value). Its checks stand
 in RULES' order: 1-6, 9, 10, 7, 8, 16, 11.
 """
@@ -17,6 +19,9 @@ LOST_RUN = 16384                    # the chunk word of a run of ones of no leng
 
 Block = namedtuple("Block", "reading packet at length kind left")
 Range = namedtuple("Range", "ssrc begin end thinning")
+Summary = namedtuple("Summary", "ssrc begin end lost duplicates jitter toh hops")
+# The sizes in bytes of a summary's numbers, in order.
+SUMMARY_SIZES = (4, 2, 2, 4, 4, 4, 4, 4, 4, 1, 1, 1, 1)
 
 
 class Refusal(Exception):
@@ -121,6 +126,7 @@ def check_length(block):
         refuse(kind in (1, 2, 3) and length < 12, 7, 12, length)
         refuse(kind == 4 and length != 12, 7, 12, length)
         refuse(kind == 5 and (length - 4) % 12 != 0, 7, length + (4 - length) % 12, length)
+        refuse(kind == 6 and length != 40, 7, 40, length)
     else:
         refuse(kind in (1, 2) and length < 12, 7, 12, length)
         refuse(kind == 4 and left < 12, 7, 12, left)
@@ -165,3 +171,25 @@ def time(packet, reading, index):
 
 def time_of(block):
     return be(view_of(block), 4, 8)
+
+
+@question
+def summary(packet, reading, index):
+    """Type 6, of the standard reading alone: the crate does not serve it."""
+    return summary_of(find_as(packet, reading, index, 6, (6,) if reading == STANDARD else ()))
+
+
+def summary_of(block):
+    view, numbers, at = view_of(block), [], 4
+    for size in SUMMARY_SIZES:
+        numbers.append(be(view, at, size))
+        at += size
+    return summary_from(view[1], numbers)
+
+
+def summary_from(flags, numbers):
+    """What is shown of a summary's numbers: those whose flag is set. Three bits of the flags are not looked at."""
+    ssrc, begin, end, lost, duplicates, *more = numbers
+    toh = flags >> 3 & 3
+    return Summary(ssrc, begin, end, lost if flags & 128 else None, duplicates if flags & 64 else None,
+                   tuple(more[:4]) if flags & 32 else None, toh, tuple(more[4:]) if toh in (1, 2) else None)

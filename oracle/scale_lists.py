@@ -4,18 +4,19 @@ lists(draw, count)                 job lists
 written(jobs, text, draw, seen)    (request, wanted, who says so), for the oracle's text about a list (src/write.rs)
 
 Without padding the bytes wanted are the Rust's own text, and so is the length that 14 and 11 speak of. The Rust knows no
-limit of blocks or bytes, and cannot be asked for padding or for a bad record: there the model answers. It writes a run of
-ones of no length, which is 12 with the index of its record.
+limit of blocks or bytes, and cannot be asked for padding, for a summary or for a bad record: there the model answers. It
+writes a run of ones of no length, which is 12 with the index of its record.
 """
 from jobs import MOST_BLOCKS, MOST_BYTES, job_list, lost_record, records
-from model_cases import CLOCK, any_word, cleared
+from model_cases import CLOCK, any_summary, any_word, cleared
 from probe import PLAIN, answer, request
 from readings import Range, Refusal
 
 FAR = 2**32 - 1
-BODIES = (0, 1, 5, 6, 7, 8, 9, 10, 11, 12, 13, 14, 24, 36)      # bodies of any bytes, in damaged lists
+BODIES = (0, 1, 5, 6, 7, 8, 9, 10, 11, 12, 13, 14, 24, 36, 37, 38, 39)      # bodies of any bytes, in damaged lists
 EDGES = (0, 1, 255, 256, 32767, 32768, 65534, 65535)
 LOST = .1       # of the lists, which may have runs of ones of no length as they come
+SUMMED = .15    # of the lists, which have summaries among their blocks
 
 
 def lists(draw, count):
@@ -29,6 +30,9 @@ def lists(draw, count):
             most = draw.choice((2, 6, 6, 12, 12, 200))
             found = [header(draw, draw.choice((0,) * 12 + (4, 8, 128, 252)))]
             found += [record(draw, most) for _ in range(draw.choice((0, 1, 1, 2, 3, 6)))]
+            if draw.random() < SUMMED:
+                for _ in range(draw.choice((1, 1, 2))):
+                    found.insert(draw.randrange(1, len(found) + 1), any_summary(draw))
             jobs = job_list(found if draw.random() < LOST else map(cleared, found))
             yield damaged(jobs, draw) if luck < .18 else jobs
 
@@ -44,7 +48,7 @@ def fields(draw):
 
 
 def record(draw, most):
-    """A good record with at most so many items."""
+    """A good record with at most so many items, of a kind that the Rust can write."""
     kind, count = draw.randrange(1, 6), draw.randrange(most + 1)
     if kind == 4:
         return 4, draw.choice((0, 1, 2**64 - 1, draw.getrandbits(64)))
@@ -73,11 +77,11 @@ def damaged(jobs, draw):
     while at < len(jobs):
         starts.append(at)
         at += 6 + int.from_bytes(jobs[at:at + 4], "little")
-    at, how = draw.choice(starts), draw.randrange(8)
+    at, how = draw.choice(starts), draw.randrange(9)
     if how == 0:
         return jobs[:draw.randrange(len(jobs) + 1)]
     if how == 1:        # another kind
-        return jobs[:at + 4] + draw.choice((0, 1, 5, 6, 256, 65535)).to_bytes(2, "little") + jobs[at + 6:]
+        return jobs[:at + 4] + draw.choice((0, 1, 5, 6, 7, 256, 65535)).to_bytes(2, "little") + jobs[at + 6:]
     if how == 2:        # another length, up to what a sum of 32 bits wraps
         size = draw.choice((0, 1, 2**31, FAR - 6, FAR - 5, FAR, draw.randrange(40)))
         return jobs[:at] + size.to_bytes(4, "little") + jobs[at + 4:]
@@ -89,7 +93,10 @@ def damaged(jobs, draw):
     if how == 5:        # a record of any bytes
         body = draw.randbytes(draw.choice(BODIES))
         return jobs[:at] + len(body).to_bytes(4, "little") + draw.randrange(7).to_bytes(2, "little") + body + jobs[at:]
-    if how == 6:        # bytes behind
+    if how == 6:        # another first or second byte of a body: a summary's flags, and what must be 0
+        place = at + 6 + draw.randrange(2)
+        return jobs[:place] + bytes([draw.choice((0, 1, 2, 4, 8, 16, 24, 248, draw.randrange(256)))]) + jobs[place + 1:]
+    if how == 7:        # bytes behind
         return jobs + draw.randbytes(draw.randrange(1, 9))
     return draw.randbytes(draw.randrange(30))
 

@@ -1,8 +1,8 @@
 """Questions about one packet for xrprobe, whose answers the model gives: the standard reading, the
-number cursor, chunk words, the dump. standard(packet, draw) gives requests.
+number cursor, chunk words, summaries, the dump. standard(packet, draw) gives requests.
 """
 from lists import covers, entries_of, numbers_of, pairs_of, words_of
-from probe import (CURSOR, DUMP, FIELDS, LENT, LIST, NUMBERS, PARSE, TYPES, VIEW, WORD, WORDS, asked,
+from probe import (CURSOR, DUMP, FIELDS, LENT, LIST, NUMBERS, PARSE, SUMMARY, TYPES, VIEW, WORD, WORDS, asked,
                    request)
 from readings import STANDARD, Refusal, check_fit, walk
 
@@ -25,6 +25,7 @@ def standard(packet, draw):
     count = len(blocks)
     for i in [draw.choice((count, count, count + 1, FAR))] + some(count, draw):
         yield request(VIEW, STANDARD, i, packet=packet)
+        yield request(SUMMARY, i, packet=packet)
         for kind in (FIELDS, LIST, WORDS, NUMBERS, CURSOR):
             other = draw.choice(asked(kind))    # mostly another type than the block's
             yield question(kind, i, other, draw, packet)

@@ -123,7 +123,7 @@ fn mixes(c: &mut Digits) -> Vec<u8> {
         dlrr(0),
         dlrr(1),
         dlrr(2),
-        other(6, 1),
+        summary(0xe8),
         other(0, 0),
     ];
     let blocks: Vec<_> = (0..4).map(|_| pool[c.below(pool.len())].clone()).collect();
@@ -172,7 +172,10 @@ fn any_block(rng: &mut Rng, runs: bool) -> Vec<u8> {
         }
         6 => reference_time(rng.next()),
         7 => dlrr(rng.below(7)),
-        _ => other(rng.pick(&[0, 6, 7, 8, 207, 255]), rng.below(7)),
+        _ => match (rng.pick(&[0, 6, 7, 8, 207, 255]), rng.below(7)) {
+            (6, n) if n < 5 => summary([0, 0x50, 0x78, 0xe8, 0xff][n]),
+            (kind, n) => other(kind, n),
+        },
     };
     if specific {
         bytes[1] |= rng.pick(&[0x10, 0x80, 0xf0]);

@@ -123,6 +123,12 @@ pub fn other(kind: u8, n: usize) -> Vec<u8> {
     block(kind, 0xa5, &body)
 }
 
+/// A Statistics Summary block (type 6) with these flags, every byte behind them another one.
+pub fn summary(flags: u8) -> Vec<u8> {
+    let body: Vec<u8> = (1..=36).map(|i| 7 * i).collect();
+    block(6, flags, &body)
+}
+
 /// The bytes of hex digits, spaces aside.
 pub fn from_hex(text: &str) -> Vec<u8> {
     let digits: Vec<u8> = text.chars().filter_map(|c| c.to_digit(16)).map(|d| d as u8).collect();

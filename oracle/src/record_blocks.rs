@@ -4,8 +4,8 @@ use crate::generate::WORDS;
 use crate::make::*;
 use crate::record::{kinds, List};
 
-pub const GROUPS: [fn(&mut List); 7] =
-    [examples, orders, thinnings, words, counts, dlrr_entries, long_lists];
+pub const GROUPS: [fn(&mut List); 8] =
+    [examples, orders, thinnings, words, counts, dlrr_entries, summaries, long_lists];
 
 fn examples(list: &mut List) {
     list.group("the examples of document 01 that are packets (3 to 10, 12)");
@@ -91,6 +91,21 @@ fn dlrr_entries(list: &mut List) {
     for words in 0..20 {
         list.add(packet(&[block(5, 0, &vec![1; 4 * words])]));
         list.add(packet(&[block(5, 0, &vec![1; 4 * words]), vec![0; 12]]));
+    }
+}
+
+fn summaries(list: &mut List) {
+    list.group("statistics summaries: each flag, other lengths, two in a packet, behind each other type");
+    (0..=248).step_by(8).for_each(|flags| list.add(packet(&[summary(flags)])));
+    [1, 2, 4, 7, 255].into_iter().for_each(|flags| list.add(packet(&[summary(flags)])));
+    for words in 0..15 {
+        list.add(packet(&[block(6, 0xe8, &vec![1; 4 * words])]));
+        list.add(packet(&[block(6, 0xe8, &vec![1; 4 * words]), summary(0x30)]));
+    }
+    for flags in [0, 0x40, 0xa8, 0xf0] {
+        kinds().into_iter().for_each(|kind| list.add(packet(&[kind, summary(flags), summary(!flags)])));
+        kinds().into_iter().for_each(|kind| list.add(packet(&[summary(flags), kind])));
+        list.add(padded(packet(&[summary(flags)]), 4, 4));
     }
 }
 

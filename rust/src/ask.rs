@@ -17,8 +17,11 @@
 //! assert_eq!(numbers, [10, 11, 12, 13]);
 //! assert_eq!(ask::numbers(Reading::Crate, &packet, 0, 1, &mut numbers), Ok(2));
 //! ```
+use crate::kinds::Sums;
 use crate::sys;
-use crate::{BlockAt, Cursor, Fields, LongTime, Reading, ReceiptTime, Refusal, RleChunk, ShortTime, Stretch};
+use crate::{
+    BlockAt, Cursor, Fields, LongTime, Reading, ReceiptTime, Refusal, RleChunk, ShortTime, Spread, Stretch, Summary,
+};
 use std::ops::Range;
 
 // Every `unsafe` of the crate stands in this file. The library asks of a caller only that each pointer and length is a
@@ -40,6 +43,28 @@ fn count_of(a: sys::Flat) -> Result<usize, Refusal> {
 fn fields_of(a: sys::FlatFields) -> Result<Fields, Refusal> {
     match a.code {
         0 => Ok(Fields { media_ssrc: a.ssrc, begin: a.begin, end: a.end, thinning: a.thinning }),
+        code => Err(Refusal::from_numbers(code, a.first, a.second)),
+    }
+}
+
+fn summary_of(a: sys::FlatSummary) -> Result<Summary, Refusal> {
+    match a.code {
+        0 => Ok(Sums {
+            flags: a.flags,
+            media_ssrc: a.ssrc,
+            begin: a.begin,
+            end: a.end,
+            lost: a.lost,
+            duplicates: a.duplicates,
+            jitter: Spread {
+                min: a.jitter_min,
+                max: a.jitter_max,
+                mean: a.jitter_mean,
+                deviation: a.jitter_deviation,
+            },
+            hops: Spread { min: a.hops_min, max: a.hops_max, mean: a.hops_mean, deviation: a.hops_deviation },
+        }
+        .shown()),
         code => Err(Refusal::from_numbers(code, a.first, a.second)),
     }
 }
@@ -94,6 +119,11 @@ pub fn fields(reading: Reading, packet: &[u8], k: usize, block_type: u8) -> Resu
 /// The time of block `k`, of type 4: 1 to 6, 9, 10, 7.
 pub fn time(reading: Reading, packet: &[u8], k: usize) -> Result<LongTime, Refusal> {
     found(unsafe { sys::xr_time(reading.number(), packet.as_ptr(), packet.len(), k) }).map(|(t, _)| LongTime(t))
+}
+
+/// What block `k`, of type 6, shows: 1 to 6, 9, 10, 7. The crate's reading has no such question: there it is 10.
+pub fn summary(reading: Reading, packet: &[u8], k: usize) -> Result<Summary, Refusal> {
+    summary_of(unsafe { sys::xr_summary(reading.number(), packet.as_ptr(), packet.len(), k) })
 }
 
 /// The sequence numbers that block `k` lists, asked as type 1 or 2, and how many: 1 to 6, 9, 10, 7, 11.
@@ -194,6 +224,11 @@ pub fn fields_view(reading: Reading, block_type: u8, view: &[u8]) -> Result<Fiel
 /// As [`time`], of a view: 10, 7.
 pub fn time_view(reading: Reading, view: &[u8]) -> Result<LongTime, Refusal> {
     found(unsafe { sys::xr_time_view(reading.number(), view.as_ptr(), view.len()) }).map(|(t, _)| LongTime(t))
+}
+
+/// As [`summary`], of a view: 10, 7.
+pub fn summary_view(reading: Reading, view: &[u8]) -> Result<Summary, Refusal> {
+    summary_of(unsafe { sys::xr_summary_view(reading.number(), view.as_ptr(), view.len()) })
 }
 
 /// As [`numbers`], of a view: 10, 7, 11.
@@ -316,7 +351,7 @@ pub fn write_careful(list: &[u8], out: &mut [u8]) -> Result<usize, Refusal> {
     count_of(unsafe { sys::xr_write_careful(list.as_ptr(), list.len(), out.as_mut_ptr(), out.len()) })
 }
 
-/// Where a packet that comes in portions stands: 64 bytes, whatever the packet. A copy is a state of its own.
+/// Where a packet that comes in portions stands: 96 bytes, whatever the packet. A copy is a state of its own.
 #[derive(Clone, Copy, Debug, PartialEq, Eq, Hash)]
 pub struct PortionState(sys::Portions);
 
@@ -339,8 +374,8 @@ pub fn portions_start() -> PortionState {
 }
 
 /// Takes some bytes of such a packet, or none, and lists the events that they complete, in the standard reading:
-/// 1, 2, 3, 18, 19, 11, 6, 7. The event at an index is in the three lists' items there ([`crate::Event::from_parts`]);
-/// what an event does not have is left as it was. Unlike elsewhere, events are listed and bytes are taken also where
+/// 1, 2, 3, 18, 19, 11, 6, 7. The event at an index is in the lists' items there, three of the last list
+/// ([`crate::Event::from_parts`]); what an event does not have is left as it was. Unlike elsewhere, events are listed and bytes are taken also where
 /// the packet is refused as 1, 2, 3, 18, 6 or 7: those before the refusal, which then stays. 19 and 11 take nothing.
 /// Room for 16,384 events is enough for one byte, whatever it is. [`crate::Portions`] does this with lists of its own.
 pub fn follow(
@@ -349,6 +384,7 @@ pub fn follow(
     tags: &mut [u64],
     numbers: &mut [u16],
     values: &mut [u64],
+    sums: &mut [u64],
 ) -> Followed {
     let a = unsafe {
         sys::xr_follow(
@@ -361,6 +397,8 @@ pub fn follow(
             numbers.len(),
             values.as_mut_ptr(),
             values.len(),
+            sums.as_mut_ptr(),
+            sums.len(),
         )
     };
     Followed {

@@ -1,7 +1,7 @@
 use crate::{ask, list, sys};
 use crate::{
     Cursor, Fields, LongTime, PacketReceiptTimesBuilder, Reading, ReceiptTime, ReceiverReferenceTimeBuilder, Refusal,
-    RleChunk, ShortTime, XrBlock, XrBlockParser, XrBlockStaticType,
+    RleChunk, ShortTime, StatisticsSummaryBuilder, Summary, XrBlock, XrBlockParser, XrBlockStaticType,
 };
 use crate::{DelaySinceLastReceiverReportBlockBuilder, DelaySinceLastReceiverReportBuilder};
 use crate::{DuplicateRleBuilder, LossRleBuilder};
@@ -427,5 +427,53 @@ impl DelaySinceLastReceiverReportBlock {
     /// A builder of an entry.
     pub fn builder() -> DelaySinceLastReceiverReportBlockBuilder {
         DelaySinceLastReceiverReportBlockBuilder::default()
+    }
+}
+
+/// A block of loss, duplicates, jitter and TTL or hop limit in numbers, of type 6. Only the standard reading has it: the
+/// crate's shows type and length of such a block, and refuses this as 10.
+///
+/// ```
+/// use giunchemis::{Hops, Spread, StatisticsSummary, Xr};
+///
+/// let ttl = Spread { min: 60, max: 64, mean: 63, deviation: 1 };
+/// let packet = Xr::builder()
+///     .add_block(StatisticsSummary::builder().ssrc(7).begin(10).end(20).lost(0).hops(Hops::Ttl(ttl)))
+///     .careful()?;
+/// let summary = Xr::parse(&packet)?.block(0)?.parse_into::<StatisticsSummary>()?.summary();
+/// assert_eq!(summary.lost, Some(0));
+/// assert_eq!(summary.duplicates, None);
+/// assert_eq!(summary.jitter, None);
+/// assert_eq!(summary.hops.numbers().map(|x| x.max), Some(64));
+/// # Ok::<(), giunchemis::Refusal>(())
+/// ```
+#[derive(Clone, Copy, Debug, PartialEq, Eq)]
+pub struct StatisticsSummary<'a> {
+    block: XrBlock<'a>,
+    summary: Summary,
+}
+
+impl XrBlockStaticType for StatisticsSummary<'_> {
+    const BLOCK_TYPE: u8 = sys::SUMMARY;
+}
+
+impl<'a> XrBlockParser<'a> for StatisticsSummary<'a> {
+    fn from_block(block: XrBlock<'a>) -> Result<Self, Refusal> {
+        let summary = ask::summary_view(block.reading(), block.data())?;
+        Ok(Self { block, summary })
+    }
+}
+
+impl<'a> StatisticsSummary<'a> {
+    of_its_block!();
+
+    /// What it shows.
+    pub fn summary(&self) -> Summary {
+        self.summary
+    }
+
+    /// A builder of such blocks.
+    pub fn builder() -> StatisticsSummaryBuilder {
+        StatisticsSummaryBuilder::default()
     }
 }

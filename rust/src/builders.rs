@@ -1,5 +1,5 @@
 use crate::{ask, list, sys};
-use crate::{DelaySinceLastReceiverReportBlock, LongTime, ReceiptTime, Refusal, RleChunk, ShortTime};
+use crate::{DelaySinceLastReceiverReportBlock, Hops, LongTime, ReceiptTime, Refusal, RleChunk, ShortTime, Spread};
 
 /// The most bytes that a packet has.
 const LIMIT: usize = 262_144;
@@ -339,5 +339,91 @@ impl XrBlockBuilder for DelaySinceLastReceiverReportBuilder {
             [e.ssrc, e.last_receiver_report.0, e.delay_since_last_receiver_report_timestamp.0]
         };
         Ok(self.entries.iter().flat_map(numbers).flat_map(u32::to_le_bytes).collect())
+    }
+}
+
+/// A builder of a [`StatisticsSummary`](crate::StatisticsSummary). A number that is not set is absent: its flag is clear,
+/// and 0 is written.
+#[derive(Clone, Copy, Debug, Default)]
+#[must_use = "The builder must be built to be used"]
+pub struct StatisticsSummaryBuilder {
+    ssrc: u32,
+    begin: u16,
+    end: u16,
+    lost: Option<u32>,
+    duplicates: Option<u32>,
+    jitter: Option<Spread<u32>>,
+    hops: Hops,
+}
+
+impl StatisticsSummaryBuilder {
+    /// Sets the SSRC of the media that is reported on.
+    pub fn ssrc(mut self, ssrc: u32) -> Self {
+        self.ssrc = ssrc;
+        self
+    }
+
+    /// Sets the first sequence number of the range.
+    pub fn begin(mut self, begin: u16) -> Self {
+        self.begin = begin;
+        self
+    }
+
+    /// Sets the first sequence number behind the range.
+    pub fn end(mut self, end: u16) -> Self {
+        self.end = end;
+        self
+    }
+
+    /// Sets how many packets were lost.
+    pub fn lost(mut self, lost: u32) -> Self {
+        self.lost = Some(lost);
+        self
+    }
+
+    /// Sets how many packets were duplicates.
+    pub fn duplicates(mut self, duplicates: u32) -> Self {
+        self.duplicates = Some(duplicates);
+        self
+    }
+
+    /// Sets the jitter.
+    pub fn jitter(mut self, jitter: Spread<u32>) -> Self {
+        self.jitter = Some(jitter);
+        self
+    }
+
+    /// Sets TTL or hop limit. [`Hops::Unknown`], ToH 3, is refused as 12, at writing.
+    pub fn hops(mut self, hops: Hops) -> Self {
+        self.hops = hops;
+        self
+    }
+
+    fn flags(&self) -> u8 {
+        let flag = |is_set: bool, bit: u8| if is_set { bit } else { 0 };
+        flag(self.lost.is_some(), sys::HAS_LOST)
+            | flag(self.duplicates.is_some(), sys::HAS_DUPLICATES)
+            | flag(self.jitter.is_some(), sys::HAS_JITTER)
+            | self.hops.toh() << 3
+    }
+}
+
+impl XrBlockBuilder for StatisticsSummaryBuilder {
+    fn kind(&self) -> u16 {
+        u16::from(sys::SUMMARY)
+    }
+
+    fn body(&self) -> Result<Vec<u8>, Refusal> {
+        let jitter = self.jitter.unwrap_or_default();
+        let hops = self.hops.numbers().unwrap_or_default();
+        let mut body = vec![self.flags(), 0];
+        body.extend_from_slice(&self.ssrc.to_le_bytes());
+        body.extend_from_slice(&self.begin.to_le_bytes());
+        body.extend_from_slice(&self.end.to_le_bytes());
+        let counts = [self.lost.unwrap_or(0), self.duplicates.unwrap_or(0)];
+        let spread = [jitter.min, jitter.max, jitter.mean, jitter.deviation];
+        body.extend(counts.into_iter().chain(spread).flat_map(u32::to_le_bytes));
+        body.extend_from_slice(&[hops.min, hops.max, hops.mean, hops.deviation]);
+        Ok(body)
     }
 }

@@ -1,4 +1,5 @@
 //! The small types that the questions speak of.
+use crate::sys;
 
 /// Which of the two readings of a packet is asked.
 #[derive(Clone, Copy, Debug, PartialEq, Eq, Hash)]
@@ -12,8 +13,8 @@ pub enum Reading {
 impl Reading {
     pub(crate) fn number(self) -> u8 {
         match self {
-            Reading::Standard => crate::sys::STANDARD,
-            Reading::Crate => crate::sys::CRATE,
+            Reading::Standard => sys::STANDARD,
+            Reading::Crate => sys::CRATE,
         }
     }
 }
@@ -61,6 +62,105 @@ pub struct Fields {
     pub end: u16,
     /// Every 2^thinning sequence numbers one is reported: 0 to 15.
     pub thinning: u8,
+}
+
+/// Four numbers of a [`Summary`].
+#[derive(Clone, Copy, Debug, Default, PartialEq, Eq, Hash)]
+pub struct Spread<T> {
+    /// The least.
+    pub min: T,
+    /// The greatest.
+    pub max: T,
+    /// The mean.
+    pub mean: T,
+    /// The standard deviation.
+    pub deviation: T,
+}
+
+/// What a [`Summary`] says of the packets' TTL or hop limit: the two bits ToH, and the four numbers, where they say whose.
+#[derive(Clone, Copy, Debug, Default, PartialEq, Eq, Hash)]
+pub enum Hops {
+    /// ToH 0: nothing.
+    #[default]
+    Absent,
+    /// ToH 1: of TTL (IPv4).
+    Ttl(Spread<u8>),
+    /// ToH 2: of the hop limit (IPv6).
+    HopLimit(Spread<u8>),
+    /// ToH 3, which RFC 3611 gives no meaning.
+    Unknown,
+}
+
+impl Hops {
+    /// The two bits, 0 to 3.
+    pub fn toh(self) -> u8 {
+        match self {
+            Hops::Absent => 0,
+            Hops::Ttl(_) => 1,
+            Hops::HopLimit(_) => 2,
+            Hops::Unknown => 3,
+        }
+    }
+
+    /// The four numbers, where they are there.
+    pub fn numbers(self) -> Option<Spread<u8>> {
+        match self {
+            Hops::Ttl(x) | Hops::HopLimit(x) => Some(x),
+            Hops::Absent | Hops::Unknown => None,
+        }
+    }
+}
+
+/// What a block of type 6 shows. A number whose flag is clear is `None`, which is another answer than 0.
+#[derive(Clone, Copy, Debug, PartialEq, Eq, Hash)]
+pub struct Summary {
+    /// The SSRC of the media that is reported on.
+    pub media_ssrc: u32,
+    /// The first sequence number of the range.
+    pub begin: u16,
+    /// The first sequence number behind the range.
+    pub end: u16,
+    /// How many packets were lost.
+    pub lost: Option<u32>,
+    /// How many packets were duplicates.
+    pub duplicates: Option<u32>,
+    /// The jitter, in the stream's own clock.
+    pub jitter: Option<Spread<u32>>,
+    /// TTL or hop limit.
+    pub hops: Hops,
+}
+
+/// A summary's flags, as in the block's specific byte, and all its numbers.
+pub(crate) struct Sums {
+    pub(crate) flags: u8,
+    pub(crate) media_ssrc: u32,
+    pub(crate) begin: u16,
+    pub(crate) end: u16,
+    pub(crate) lost: u32,
+    pub(crate) duplicates: u32,
+    pub(crate) jitter: Spread<u32>,
+    pub(crate) hops: Spread<u8>,
+}
+
+impl Sums {
+    /// What is shown of them.
+    pub(crate) fn shown(self) -> Summary {
+        let has = |bit: u8| self.flags & bit != 0;
+        Summary {
+            media_ssrc: self.media_ssrc,
+            begin: self.begin,
+            end: self.end,
+            lost: has(sys::HAS_LOST).then_some(self.lost),
+            duplicates: has(sys::HAS_DUPLICATES).then_some(self.duplicates),
+            jitter: has(sys::HAS_JITTER).then_some(self.jitter),
+            hops: match (has(sys::HOPS), has(sys::TTL)) {
+                (false, false) => Hops::Absent,
+                (false, true) => Hops::Ttl(self.hops),
+                (true, false) => Hops::HopLimit(self.hops),
+                (true, true) => Hops::Unknown,
+            },
+        }
+    }
 }
 
 /// What stands at a place of a packet ([`ask::block_at`](crate::ask::block_at)).

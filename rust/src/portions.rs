@@ -1,6 +1,7 @@
 //! A packet that comes in portions, some bytes at a time.
 use crate::ask::{self, PortionState};
-use crate::{DelaySinceLastReceiverReportBlock, Fields, LongTime, ReceiptTime, Refusal, ShortTime};
+use crate::kinds::Sums;
+use crate::{DelaySinceLastReceiverReportBlock, Fields, LongTime, ReceiptTime, Refusal, ShortTime, Spread, Summary};
 
 /// What a packet that comes in portions shows, each at the byte that completes it.
 #[derive(Clone, Copy, Debug, PartialEq, Eq)]
@@ -29,13 +30,16 @@ pub enum Event {
     Entry(DelaySinceLastReceiverReportBlock),
     /// The time of a block of type 4.
     Time(LongTime),
+    /// What a block of type 6 shows.
+    Summary(Summary),
     /// The packet's last byte has come.
     End,
 }
 
 impl Event {
-    /// The event of a tag, a number and a value, as [`ask::follow`] stores them; a tag that is none is an end.
-    pub fn from_parts(tag: u64, number: u16, value: u64) -> Event {
+    /// The event of a tag, a number, a value and three numbers of the last list, as [`ask::follow`] stores them; a tag
+    /// that is none is an end.
+    pub fn from_parts(tag: u64, number: u16, value: u64, sums: [u64; 3]) -> Event {
         let start = |fields| Event::Start { block_type: (tag >> 8) as u8, length: (tag >> 16 & 0xff_ffff) as usize, fields };
         match tag & 255 {
             1 => Event::Header { length: (tag >> 8) as u32 as usize, sender_ssrc: value as u32 },
@@ -54,6 +58,29 @@ impl Event {
                 delay_since_last_receiver_report_timestamp: ShortTime(value as u32),
             }),
             7 => Event::Time(LongTime(value)),
+            9 => Event::Summary(
+                Sums {
+                    flags: (tag >> 8) as u8,
+                    media_ssrc: (value >> 32) as u32,
+                    begin: (value >> 16) as u16,
+                    end: value as u16,
+                    lost: (sums[0] >> 32) as u32,
+                    duplicates: sums[0] as u32,
+                    jitter: Spread {
+                        min: (sums[1] >> 32) as u32,
+                        max: sums[1] as u32,
+                        mean: (sums[2] >> 32) as u32,
+                        deviation: sums[2] as u32,
+                    },
+                    hops: Spread {
+                        min: (tag >> 40) as u8,
+                        max: (tag >> 32) as u8,
+                        mean: (tag >> 24) as u8,
+                        deviation: (tag >> 16) as u8,
+                    },
+                }
+                .shown(),
+            ),
             _ => Event::End,
         }
     }
@@ -63,7 +90,7 @@ impl Event {
 pub const MOST_EVENTS: usize = 16384;
 
 /// A packet that comes in portions, some bytes at a time, sometimes none: the standard reading of it, without keeping
-/// the packet. It holds a state of 64 bytes, and lists for 16,384 events, whatever the packet.
+/// the packet. It holds a state of 96 bytes, and lists for 16,384 events, whatever the packet.
 ///
 /// ```
 /// use giunchemis::{Event, Portions};
@@ -92,6 +119,7 @@ pub struct Portions {
     tags: Vec<u64>,
     numbers: Vec<u16>,
     values: Vec<u64>,
+    sums: Vec<u64>,
 }
 
 impl Default for Portions {
@@ -108,6 +136,7 @@ impl Portions {
             tags: vec![0; MOST_EVENTS],
             numbers: vec![0; MOST_EVENTS],
             values: vec![0; MOST_EVENTS],
+            sums: vec![0; 3 * MOST_EVENTS],
         }
     }
 
@@ -151,7 +180,8 @@ impl Events<'_> {
         while self.at == self.upto && !self.is_over {
             let size = self.size.min(self.bytes.len());
             let p = &mut *self.portions;
-            let a = ask::follow(p.state, &self.bytes[..size], &mut p.tags, &mut p.numbers, &mut p.values);
+            let given = &self.bytes[..size];
+            let a = ask::follow(p.state, given, &mut p.tags, &mut p.numbers, &mut p.values, &mut p.sums);
             if let Some(Refusal::NoRoom { .. }) = a.refusal {
                 self.size = (size / 2).max(1);
                 continue;
@@ -177,7 +207,8 @@ impl Iterator for Events<'_> {
         }
         let (i, p) = (self.at, &self.portions);
         self.at += 1;
-        Some(Ok(Event::from_parts(p.tags[i], p.numbers[i], p.values[i])))
+        let sums = [p.sums[3 * i], p.sums[3 * i + 1], p.sums[3 * i + 2]];
+        Some(Ok(Event::from_parts(p.tags[i], p.numbers[i], p.values[i], sums)))
     }
 }
 

@@ -44,6 +44,38 @@ pub(crate) struct FlatBlock {
     pub(crate) specific: u8,
 }
 
+#[repr(C)]
+#[derive(Clone, Copy)]
+pub(crate) struct FlatSummary {
+    pub(crate) code: u32,
+    pub(crate) first: u64,
+    pub(crate) second: u64,
+    pub(crate) ssrc: u32,
+    pub(crate) lost: u32,
+    pub(crate) duplicates: u32,
+    pub(crate) jitter_min: u32,
+    pub(crate) jitter_max: u32,
+    pub(crate) jitter_mean: u32,
+    pub(crate) jitter_deviation: u32,
+    pub(crate) begin: u16,
+    pub(crate) end: u16,
+    pub(crate) flags: u8,
+    pub(crate) hops_min: u8,
+    pub(crate) hops_max: u8,
+    pub(crate) hops_mean: u8,
+    pub(crate) hops_deviation: u8,
+}
+
+/// The numbers of a summary that is not complete.
+#[repr(C)]
+#[derive(Clone, Copy, Debug, PartialEq, Eq, Hash)]
+pub(crate) struct Kept {
+    pub(crate) first: u64,
+    pub(crate) second: u64,
+    pub(crate) third: u64,
+    pub(crate) fourth: u64,
+}
+
 /// What the items of a packet in portions that are still to come need to know.
 #[repr(C)]
 #[derive(Clone, Copy, Debug, PartialEq, Eq, Hash)]
@@ -53,6 +85,7 @@ pub(crate) struct Known {
     pub(crate) whose: u32,
     pub(crate) next: u16,
     pub(crate) inside: usize,
+    pub(crate) kept: Kept,
 }
 
 /// Where a packet that comes in portions stands.
@@ -78,7 +111,7 @@ pub(crate) struct FlatFollowed {
     pub(crate) state: Portions,
 }
 
-// The readings, the block types and the kinds of chunk words.
+// The readings, the block types, the flags of a summary and the kinds of chunk words.
 pub(crate) const STANDARD: u8 = 0;
 pub(crate) const CRATE: u8 = 1;
 pub(crate) const LOSS: u8 = 1;
@@ -86,6 +119,12 @@ pub(crate) const DUPLICATE: u8 = 2;
 pub(crate) const RECEIPT_TIMES: u8 = 3;
 pub(crate) const REFERENCE_TIME: u8 = 4;
 pub(crate) const DLRR: u8 = 5;
+pub(crate) const SUMMARY: u8 = 6;
+pub(crate) const HAS_LOST: u8 = 128;
+pub(crate) const HAS_DUPLICATES: u8 = 64;
+pub(crate) const HAS_JITTER: u8 = 32;
+pub(crate) const HOPS: u8 = 16;
+pub(crate) const TTL: u8 = 8;
 pub(crate) const NULL: u8 = 0;
 pub(crate) const ZEROS: u8 = 1;
 pub(crate) const ONES: u8 = 2;
@@ -98,6 +137,7 @@ extern "C" {
     pub(crate) fn xr_block_at(r: u8, packet: *const u8, packet_len: usize, at: usize) -> FlatBlock;
     pub(crate) fn xr_fields(r: u8, packet: *const u8, packet_len: usize, k: usize, t: u8) -> FlatFields;
     pub(crate) fn xr_time(r: u8, packet: *const u8, packet_len: usize, k: usize) -> Flat;
+    pub(crate) fn xr_summary(r: u8, packet: *const u8, packet_len: usize, k: usize) -> FlatSummary;
     pub(crate) fn xr_numbers(
         r: u8,
         packet: *const u8,
@@ -152,6 +192,7 @@ extern "C" {
     ) -> FlatStretch;
     pub(crate) fn xr_fields_view(r: u8, t: u8, view: *const u8, view_len: usize) -> FlatFields;
     pub(crate) fn xr_time_view(r: u8, view: *const u8, view_len: usize) -> Flat;
+    pub(crate) fn xr_summary_view(r: u8, view: *const u8, view_len: usize) -> FlatSummary;
     pub(crate) fn xr_numbers_view(
         r: u8,
         t: u8,
@@ -204,6 +245,8 @@ extern "C" {
         numbers_len: usize,
         values: *mut u64,
         values_len: usize,
+        sums: *mut u64,
+        sums_len: usize,
     ) -> FlatFollowed;
     pub(crate) fn xr_chunk_of(word: u16) -> Flat;
     pub(crate) fn xr_chunk(k: u8, value: u32, out: *mut u8, out_len: usize) -> Flat;

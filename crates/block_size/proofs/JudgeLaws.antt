@@ -2,6 +2,7 @@
 --     fields-short, ..     the tests of `hasFields` in turn
 --     fields-are           what it says of a body
 --     words-short, ..      the tests of a body of words in turn
+--     sums-other, ..       the tests of a summary's body in turn
 --     block-words, ..      `isBlockJob` by the record's kind
 --     good-words           what it says of a body of words
 use Prim.Native.Nat.{ℕ, _-_, _%_, _≤_, _<_}
@@ -12,14 +13,15 @@ use native.Mathlib.Omega.{arith}
 use lib.ListN.{length, take, drop, length-drop}
 use lib.Seq.{take-all}
 use lib.Dec.{leb, eqb}
-use borrow.Author.Tests.{le-leb, lt-leb, leb-true, eqb-true}
+use borrow.Author.Tests.{le-leb, lt-leb, leb-true, eqb-true, eq-eqb, ne-eqb}
 use Rattle.laws.proofs.Tests.{and-true}
 use Rattle.def_wire.specs.declared.Rle.{Rle}
 use Rattle.def_wire.specs.declared.Ranged.the-variants.{Chunks, Times}
-use Rattle.def_wire.specs.declared.Kind.the-variants.{Spans, Clock, Echoes}
+use Rattle.def_wire.specs.declared.Kind.the-variants.{Spans, Clock, Echoes, Statistics}
 use Rattle.def_wire.specs.declared.KindOr.the-variants.{AKind, NoKind}
 use Rattle.def_wire.specs.Block.{lostRun, has, kindOf}
-use Rattle.def_jobs.specs.Jobs.{Job, le16, low16, hasFields, isBlockJob}
+use Rattle.def_wire.specs.Bytes.{byteAt}
+use Rattle.def_jobs.specs.Jobs.{Job, le16, low16, jobFlags, hasFields, isFlags, hasSums, isBlockJob}
 use Rattle.block_size.specs.Judged.{Fielded, hasWords}
 
 module _ (j : Job) where
@@ -48,6 +50,16 @@ module _ (j : Job) where
       let all = take-all (length (j .body)) (drop 10 (j .body)) (omega (arith, length-drop 10 (j .body))) in
       ap not (f ∙ ap (λ (l : List ℕ). has lostRun (low16 l)) (b ∙ all)) ∙ (rw e)
 
+  pub sums-other : (length (j .body) ≡ 38 → ⊥) → false ≡ hasSums j
+  sums-other h = rw (ne-eqb _ _ h)
+
+  module _ (h : length (j .body) ≡ 38) where
+    pub sums-second : (byteAt (j .body) 1 ≡ 0 → ⊥) → false ≡ hasSums j
+    sums-second n = rw (eq-eqb _ _ h, ne-eqb _ _ n)
+
+    pub sums-flags : byteAt (j .body) 1 ≡ 0 → isFlags (jobFlags j) ≡ hasSums j
+    sums-flags z = rw (eq-eqb _ _ h, eq-eqb _ _ z)
+
   pub block-words : (a : Rle) → kindOf (j .kind) ≡ AKind (Spans (Chunks a)) → isBlockJob j ≡ hasWords j
   unfolding isBlockJob
   block-words a e = rw e
@@ -66,6 +78,10 @@ module _ (j : Job) where
   pub block-echoes : kindOf (j .kind) ≡ AKind Echoes → isBlockJob j ≡ eqb (length (j .body) % 12) 0
   unfolding isBlockJob
   block-echoes e = rw e
+
+  pub block-sums : kindOf (j .kind) ≡ AKind Statistics → isBlockJob j ≡ hasSums j
+  unfolding isBlockJob
+  block-sums e = rw e
 
   pub block-none : kindOf (j .kind) ≡ NoKind → isBlockJob j ≡ false
   unfolding isBlockJob

@@ -11,17 +11,17 @@ use borrow.Author.Tests.{lt-ltb, le-ltb, eq-eqb}
 use Rattle.laws.proofs.Tests.{either}
 use Rattle.def_wire.specs.declared.Rle.{Rle}
 use Rattle.def_wire.specs.declared.Ranged.the-variants.{Chunks, Times}
-use Rattle.def_wire.specs.declared.Kind.the-variants.{Spans, Clock, Echoes}
+use Rattle.def_wire.specs.declared.Kind.the-variants.{Spans, Clock, Echoes, Statistics}
 use Rattle.def_wire.specs.declared.KindOr.the-variants.{AKind}
 use Rattle.def_wire.specs.Block.{kindOf}
 use Rattle.def_jobs.specs.declared.Layout.{Layout}
-use Rattle.def_jobs.specs.Jobs.{Job, jobWords, hasFields, isBlockJob}
+use Rattle.def_jobs.specs.Jobs.{Job, jobWords, hasFields, hasSums, isBlockJob}
 use Rattle.def_jobs.specs.Layout.{zerosBehind, blockBytes}
 use Rattle.block_size.specs.Judged.{judgedSize, hasWords}
 use Rattle.block_size.proofs.JudgeLaws.{fields-are, good-words, block-words, block-times, block-clock}
-use Rattle.block_size.proofs.JudgeLaws.{block-echoes}
+use Rattle.block_size.proofs.JudgeLaws.{block-echoes, block-sums}
 use Rattle.block_size.proofs.LayoutLaws.{length-block-words, length-block-times, length-block-clock}
-use Rattle.block_size.proofs.LayoutLaws.{length-block-echoes, block-least}
+use Rattle.block_size.proofs.LayoutLaws.{length-block-echoes, length-block-sums, block-least}
 
 module _ (layout : Layout) (j : Job) where
   judged-good : (n : ℕ) → isBlockJob j ≡ true → n ≡ length (blockBytes layout j) → n ≡ judgedSize layout j
@@ -49,6 +49,9 @@ module _ (layout : Layout) (j : Job) where
       → length (j .body) + 4 ≡ judgedSize layout j
   judged-echoes e l =
       judged-good _ (block-echoes j e ∙ eq-eqb _ _ l) (omega (arith, l, length-block-echoes layout j e))
+
+  pub judged-sums : kindOf (j .kind) ≡ AKind Statistics → hasSums j ≡ true → 40 ≡ judgedSize layout j
+  judged-sums e f = judged-good _ (block-sums j e ∙ f) (sym (length-block-sums layout j e))
 
   pub is-judged : (n : ℕ) → n ≡ judgedSize layout j → ltb 0 n ≡ isBlockJob j
   is-judged n e =

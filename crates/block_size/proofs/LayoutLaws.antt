@@ -7,13 +7,13 @@ use mathlib.Core.Path.{_≡_, refl}
 use mathlib.Core.Bool.{true}
 use native.Mathlib.Omega.{arith}
 use lib.ListN.{length, replicate, length-append, length-replicate}
-use lib.Dec.{leb}
+use lib.Dec.{leb, eqb}
 use borrow.Author.Tests.{leb-true, eqb-true}
 use Rattle.laws.proofs.Tests.{and-true, true≢false}
 use Rattle.def_wire.specs.Bytes.{two, four}
 use Rattle.def_wire.specs.declared.Rle.{Rle}
 use Rattle.def_wire.specs.declared.Ranged.the-variants.{Chunks, Times}
-use Rattle.def_wire.specs.declared.Kind.the-variants.{Spans, Clock, Echoes}
+use Rattle.def_wire.specs.declared.Kind.the-variants.{Spans, Clock, Echoes, Statistics}
 use Rattle.def_wire.specs.declared.KindOr.{KindOr}
 use Rattle.def_wire.specs.declared.KindOr.the-variants.{AKind, NoKind}
 use Rattle.def_wire.specs.Block.{kindOf}
@@ -61,6 +61,10 @@ module _ (layout : Layout) (j : Job) where
   unfolding blockBytes
   length-block-echoes e = rw e as-echoes
 
+  pub length-block-sums : kindOf (j .kind) ≡ AKind Statistics → length (blockBytes layout j) ≡ 40
+  unfolding blockBytes
+  length-block-sums e = rw e
+
   pub length-block-none : kindOf (j .kind) ≡ NoKind → length (blockBytes layout j) ≡ 0
   unfolding blockBytes
   length-block-none e = rw e
@@ -77,6 +81,8 @@ body-fits (AKind (Spans Times)) layout j e =
 body-fits (AKind Clock) layout j e =
     let h : length (j .body) ≡ 8 = eqb-true _ _ e in omega arith
 body-fits (AKind Echoes) layout j e = omega (arith, as-echoes layout j)
+body-fits (AKind Statistics) layout j e =
+    let h : length (j .body) ≡ 38 = eqb-true _ _ (and-true (eqb (length (j .body)) 38) _ e .0) in omega arith
 body-fits NoKind layout j e = true≢false e
 
 pub block-fits : (layout : Layout) (j : Job) → isBlockJob j ≡ true → length (blockBytes layout j) ≤ 6 + length (j .body)
@@ -88,6 +94,7 @@ body-least (AKind (Spans (Chunks a))) layout j e = omega (arith, as-words layout
 body-least (AKind (Spans Times)) layout j e = omega (arith, as-times layout j)
 body-least (AKind Clock) layout j e = omega arith
 body-least (AKind Echoes) layout j e = omega (arith, as-echoes layout j)
+body-least (AKind Statistics) layout j e = omega arith
 body-least NoKind layout j e = true≢false e
 
 pub block-least : (layout : Layout) (j : Job) → isBlockJob j ≡ true → 4 ≤ length (blockBytes layout j)

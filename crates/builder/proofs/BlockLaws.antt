@@ -9,7 +9,7 @@ use Rattle.laws.specs.Stores.{Wrote}
 use Rattle.laws.proofs.Stores.{and-then, same}
 use Rattle.def_wire.specs.declared.Rle.{Rle}
 use Rattle.def_wire.specs.Bytes.{byteAt, two, four}
-use Rattle.def_wire.specs.Block.{rleType, receiptType, clockType}
+use Rattle.def_wire.specs.Block.{rleType, receiptType, clockType, summaryType}
 use Rattle.def_jobs.specs.declared.Layout.{Layout}
 use Rattle.def_jobs.specs.Jobs.{le16, le32, le64, low16, jobWords, jobTimes}
 use Rattle.def_jobs.specs.Layout.{head, withFields, wordsBytes, zerosBehind}
@@ -20,7 +20,8 @@ use Rattle.block_size.specs.Judged.{Fielded}
 use Rattle.block_size.proofs.ZerosLaws.{length-words, length-times, zeros-most}
 use Rattle.little_endian.proofs.LowLaws.{length-bytesOf}
 use Rattle.swap.specs.Swapped.{swapped16, swapped32}
-use Rattle.builder.specs.Blocks.{fieldsIn, fieldsBytes, wordsBlock, timesBlock, clockBlock}
+use Rattle.builder.specs.Blocks.{fieldsIn, fieldsBytes, countsBytes, hopsBytes, wordsBlock, timesBlock}
+use Rattle.builder.specs.Blocks.{clockBlock, sumsBlock}
 use Rattle.frame.proofs.FrameLaws.{piece, told}
 
 -- the thinning's low byte is the whole thinning
@@ -47,6 +48,33 @@ clock-wrote body bytes {l} {m} {n} {o} {at} {i} w x y =
     and-then w
     (and-then (told (ap four high) (piece m n (four (le32 body 4)) i x))
     (told (ap four low ∙ four-low t) (piece n o (four (le32 body 0)) (i + 4) y)))
+
+-- six numbers, each stored four bytes behind the one before
+number-wrote : (body : List ℕ) (k : ℕ) {l m : List ℕ} {at : ℕ} (next : ℕ) → next ≡ at + 4
+    → m ≡ sets l at (four (le32 body k)) → Wrote l at (four (le32 body k)) m next
+number-wrote body k next e x = record { stored = x; past = e }
+
+pub counts-wrote : (body : List ℕ) {l m n o p q r : List ℕ} {at : ℕ} → m ≡ sets l at (four (le32 body 10))
+    → n ≡ sets m (at + 4) (four (le32 body 14)) → o ≡ sets n (at + 8) (four (le32 body 18))
+    → p ≡ sets o (at + 12) (four (le32 body 22)) → q ≡ sets p (at + 16) (four (le32 body 26))
+    → r ≡ sets q (at + 20) (four (le32 body 30)) → Wrote l at (countsBytes body) r (at + 24)
+counts-wrote body {at = at} a b c d e f =
+    and-then (number-wrote body 10 (at + 4) refl a)
+    (and-then (number-wrote body 14 (at + 8) (omega arith) b)
+    (and-then (number-wrote body 18 (at + 12) (omega arith) c)
+    (and-then (number-wrote body 22 (at + 16) (omega arith) d)
+    (and-then (number-wrote body 26 (at + 20) (omega arith) e) (number-wrote body 30 (at + 24) (omega arith) f)))))
+
+pub sums-wrote : (body : List ℕ) {l m n o p q r : List ℕ} {at i j k : ℕ}
+    → Wrote l at (head summaryType (byteAt body 0) 36) m i → n ≡ sets m i (four (le32 body 2))
+    → o ≡ sets n (i + 4) (two (le16 body 6)) → p ≡ sets o (i + 4 + 2) (two (le16 body 8))
+    → Wrote p (i + 4 + 2 + 2) (countsBytes body) q j → Wrote q j (hopsBytes body) r k
+    → Wrote l at (sumsBlock body) r k
+sums-wrote body {m = m} {n} {o} {p} {i = i} w x y z c h =
+    and-then w
+    (and-then (piece m n (four (le32 body 2)) i x)
+    (and-then (piece n o (two (le16 body 6)) (i + 4) y)
+    (and-then (piece o p (two (le16 body 8)) (i + 4 + 2) z) (and-then c h))))
 
 -- a block with fields, and what stands behind them
 with-fields : (body rest : List ℕ) {l m n : List ℕ} {at i j : ℕ} (kind behind : ℕ) → behind ≡ 8 + length rest

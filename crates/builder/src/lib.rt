@@ -11,7 +11,7 @@ ghost use Rattle.def_jobs.specs.Layout.{head, blockBytes};
 ghost use Rattle.jobs.specs.Places.{jobOf};
 ghost use Rattle.block_size.specs.Judged.{Fielded};
 ghost use Rattle.builder.specs.Blocks.{fieldsIn, fieldsBytes, wordsBlock, timesBlock, clockBlock};
-ghost use Rattle.builder.specs.Blocks.{echoesBlock};
+ghost use Rattle.builder.specs.Blocks.{echoesBlock, countsBytes, hopsBytes, sumsBlock};
 use def_jobs::Layout;
 use def_wire::Kind;
 use def_wire::KindOr;
@@ -128,7 +128,7 @@ fn write_echoes(body: &[u8], out: &mut [u8], at: usize) -> usize
     swap::swap32(body, 0, out, entries)
 }
 
-// So many 32-bit numbers of a summary.
+// The six 32-bit numbers of a summary: lost, duplicates and jitter.
 fn put_counts(body: &[u8], out: &mut [u8], at: usize) -> usize
     requires { ⌜ (length (now body) ≡ 38) × (at + 24 ≤ length (now out)) ⌝ }
     ensures { λ r. ⌜ Wrote (now (out .entry)) at (countsBytes (now (body .entry))) (now (out .exit)) r ⌝ }
@@ -140,6 +140,18 @@ fn put_counts(body: &[u8], out: &mut [u8], at: usize) -> usize
     swap::put_number(body, 26, out, at + 16);
     swap::put_number(body, 30, out, at + 20);
     at + 24
+}
+
+// Its four bytes of TTL or hop limit.
+fn put_hops(body: &[u8], out: &mut [u8], at: usize) -> usize
+    requires { ⌜ (length (now body) ≡ 38) × (at + 4 ≤ length (now out)) ⌝ }
+    ensures { λ r. ⌜ Wrote (now (out .entry)) at (hopsBytes (now (body .entry))) (now (out .exit)) r ⌝ }
+{
+    out[at] = body[34];
+    out[at + 1] = body[35];
+    out[at + 2] = body[36];
+    out[at + 3] = body[37];
+    at + 4
 }
 
 // A block of type 6: its flags and all its numbers (RFC 3611, 4.6). The Rust has none.
@@ -154,11 +166,7 @@ fn write_sums(body: &[u8], out: &mut [u8], at: usize) -> usize
     let end = begin + 2;
     swap::put_word(body, 8, out, end);
     let hops = put_counts(body, out, end + 2);
-    out[hops] = body[34];
-    out[hops + 1] = body[35];
-    out[hops + 2] = body[36];
-    out[hops + 3] = body[37];
-    hops + 4
+    put_hops(body, out, hops)
 }
 
 // The block that a good record asks for, where there is room for it; gives the index past it. Port of: the blocks of

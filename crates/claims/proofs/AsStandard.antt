@@ -2,137 +2,54 @@
 -- answers it. Assumes nothing.
 --     Both            block k of a packet in both readings: the crate's view goes on behind the standard's
 --     as-standard     where it does not mislead, the crate answers as the standard
---     no-misleading   and the other way round
+--     as-shown        and shows what the standard shows, or type and length only of a summary
+--     no-misleading   the other way round: where it answers as the standard, it does not mislead
 use Prim.Native.Nat.{ℕ, _≤_}
 use mathlib.Core.Path.{_≡_, refl, sym, ap, ap₂, _∙_}
 use mathlib.Core.Bool.{Bool, true, false, not}
 use mathlib.Core.List.{List}
+use mathlib.Core.Logic.{inl, inr}
 use native.Mathlib.Omega.{arith}
 use lib.ListN.{length}
 use lib.Dec.{eqb, leb}
-use borrow.Author.Tests.{eqb-true, leb-true, le-ltb}
-use Rattle.laws.proofs.Tests.{by-test, true≢false}
-use Rattle.def_refusals.specs.declared.Refusal.{Refusal}
-use Rattle.def_refusals.specs.declared.Checked.{Checked}
-use Rattle.def_refusals.specs.declared.Checked.the-variants.{Fine, Unfit}
+use borrow.Author.Tests.{leb-true, le-ltb}
+use Rattle.laws.proofs.Tests.{by-test, either, true≢false}
+use Rattle.def_refusals.specs.declared.Checked.the-variants.{Fine}
 use Rattle.def_refusals.specs.Answers.{Or, shown, refused, onShown}
-use Rattle.def_wire.specs.declared.Reading.{Reading}
 use Rattle.def_wire.specs.declared.Reading.the-variants.{Standard, Crate}
-use Rattle.def_wire.specs.declared.Rle.{Rle}
-use Rattle.def_wire.specs.declared.Rle.the-variants.{Loss, Duplicate}
 use Rattle.def_wire.specs.declared.Ranged.{Ranged}
 use Rattle.def_wire.specs.declared.Ranged.the-variants.{Chunks, Times}
-use Rattle.def_wire.specs.declared.Kind.{Kind}
-use Rattle.def_wire.specs.declared.Kind.the-variants.{Spans, Clock, Echoes}
+use Rattle.def_wire.specs.declared.Kind.the-variants.{Spans, Clock, Echoes, Statistics}
 use Rattle.def_wire.specs.declared.KindOr.{KindOr}
 use Rattle.def_wire.specs.declared.KindOr.the-variants.{AKind, NoKind}
 use Rattle.def_wire.specs.declared.Fields.{Fields}
 use Rattle.def_wire.specs.declared.FieldsOr.{FieldsOr}
 use Rattle.def_wire.specs.declared.FieldsOr.the-variants.{Shown, NoneOf}
 use Rattle.def_wire.specs.declared.LongTime.{LongTime}
-use Rattle.def_wire.specs.declared.TimeOr.the-variants.{Time}
+use Rattle.def_wire.specs.declared.Summary.{Summary}
+use Rattle.def_wire.specs.declared.SummaryOr.{SummaryOr}
+use Rattle.def_wire.specs.declared.SummaryOr.the-variants.{Stated, NoSummary}
 use Rattle.def_wire.specs.Packet.{viewOf}
-use Rattle.def_wire.specs.Block.{typeOf, kindType, rleOf, rangedOf, kindOf, standardRule, checkOf, isCut, rule}
-use Rattle.def_wire.specs.Block.{onCheckedFields, onCheckedTime, fieldsAt, timeAt, fieldsOf, timeOf}
+use Rattle.def_wire.specs.Block.{typeOf, kindType, kindOf, knownTo, standardRule}
+use Rattle.def_wire.specs.Block.{checkOf, isCut, rule}
+use Rattle.def_wire.specs.Block.{fieldsOf}
+use Rattle.def_wire.specs.Summary.{summaryOf}
 use Rattle.def_standard.specs.declared.Receipt.{Receipt}
 use Rattle.def_standard.specs.declared.Echo.{Echo}
-use Rattle.def_standard.specs.Standard.{entriesOf}
-use Rattle.def_questions.specs.Questions.{numbersIn, pairsIn, numbersShown, pairsShown, entriesShown}
-use Rattle.def_questions.specs.Packets.{fieldsAsked, numbersAsked, pairsAsked, entriesAsked, timeAsked}
-use Rattle.def_jobs.specs.Shown.{Record, reported, received, clocked, echoed, bare, recordAs, recordOf, sameRecord}
-use Rattle.def_jobs.specs.Shown.{onFields, numbersRow}
-use Rattle.def_jobs.specs.Writing.{differs, misleads}
+use Rattle.def_questions.specs.Questions.{pairsShown}
+use Rattle.def_questions.specs.Packets.{fieldsAsked, numbersAsked, pairsAsked, entriesAsked, timeAsked, summaryAsked}
+use Rattle.def_jobs.specs.Shown.{Record, reported, received, clocked, echoed, summed, bare, recordAs, recordOf}
+use Rattle.def_jobs.specs.Shown.{sameRecord, onFields, onSummary, numbersRow}
+use Rattle.def_jobs.specs.Writing.{isBare, differs, misleads}
 use Rattle.utils.proofs.ClearLaws.{fit-times}
-use Rattle.written.proofs.RecordsLaws.{not-shown, on-fine}
+use Rattle.written.proofs.RecordsLaws.{not-shown}
 use Rattle.old_readers.proofs.Same.{same-self, same-record}
 use Rattle.claims.specs.RoundTrip.{Answered}
-use Rattle.claims.specs.Careful.{AsStandard}
+use Rattle.claims.specs.Careful.{AsStandard, BareSummary, AsShown}
 use Rattle.claims.proofs.Answered.{shown-answered, by-kind}
-
--- ---- a block of the asked kind
-
-kind-type : (k : Kind) → kindOf (kindType k) ≡ AKind k
-unfolding kindOf rangedOf rleOf
-kind-type (Spans (Chunks Loss)) = refl
-kind-type (Spans (Chunks Duplicate)) = refl
-kind-type (Spans Times) = refl
-kind-type Clock = refl
-kind-type Echoes = refl
-
-pub no-fault : {P : Type 0} {x : Refusal} → Unfit x ≡ Fine → P
-no-fault {x = x} e = absurd (let z : _≡_ {A = ℕ} 0 1 = cc in omega arith)
-
-module _ (r : Reading) (v : List ℕ) where
-  type-fine : (k : Kind) → checkOf r k v ≡ Fine → typeOf v ≡ kindType k
-  unfolding checkOf
-  type-fine k = by-test (eqb (typeOf v) (kindType k)) (λ t _. eqb-true _ _ t) (λ _ e. no-fault e)
-
-  -- all that it shows
-  record-fine : (k : Kind) → checkOf r k v ≡ Fine → recordOf r v ≡ recordAs (AKind k) r v
-  unfolding recordOf
-  record-fine k c = rw (type-fine k c, kind-type k)
-
-  checked-fields : (c : Checked) (x : FieldsOr) (f : Fields) → onCheckedFields c x ≡ Shown f
-      → (c ≡ Fine) × (x ≡ Shown f)
-  checked-fields Fine x f e = (refl, e)
-  checked-fields (Unfit y) x f e = absurd (let z : _≡_ {A = ℕ} 0 1 = cc in omega arith)
-
-  not-cut : (a : Rle) → isCut r (Chunks a) (length v) ≡ false
-  not-cut = by-reading r
-    where
-      by-reading : (r : Reading) (a : Rle) → isCut r (Chunks a) (length v) ≡ false
-      by-reading Standard a = refl
-      by-reading Crate a = refl
-
-  chunks-record : (a : Rle) → checkOf r (Spans (Chunks a)) v ≡ Fine
-      → recordOf r v ≡ shown (reported a (fieldsAt v) (numbersIn r v))
-  unfolding fieldsOf numbersShown
-  chunks-record a c = record-fine (Spans (Chunks a)) c ∙ (rw (c, not-cut a))
-
-  times-record : isCut r Times (length v) ≡ false → checkOf r (Spans Times) v ≡ Fine
-      → recordOf r v ≡ shown (received (fieldsAt v) (pairsIn r v))
-  unfolding fieldsOf pairsShown
-  times-record n c = record-fine (Spans Times) c ∙ (rw (c, n))
-
-  clock-record : checkOf r Clock v ≡ Fine → recordOf r v ≡ shown (clocked (timeAt v))
-  unfolding timeOf
-  clock-record c = record-fine Clock c ∙ (rw c)
-
-  echoes-record : checkOf r Echoes v ≡ Fine → recordOf r v ≡ shown (echoed (entriesOf v))
-  unfolding entriesShown
-  echoes-record c = record-fine Echoes c ∙ (rw c)
-
--- ---- a question that is answered
-
-module _ (r : Reading) (v : List ℕ) where
-  numbers-fine : (a : Rle) (l : List ℕ) → numbersShown r a v ≡ shown l
-      → (checkOf r (Spans (Chunks a)) v ≡ Fine) × (numbersIn r v ≡ l)
-  unfolding numbersShown
-  numbers-fine a l = on-fine (checkOf r (Spans (Chunks a)) v) (numbersIn r v) l
-
-  pairs-fine : (l : List Receipt) → pairsShown r v ≡ shown l → (checkOf r (Spans Times) v ≡ Fine) × (pairsIn r v ≡ l)
-  unfolding pairsShown
-  pairs-fine l = on-fine (checkOf r (Spans Times) v) (pairsIn r v) l
-
-  entries-fine : (l : List Echo) → entriesShown r v ≡ shown l → (checkOf r Echoes v ≡ Fine) × (entriesOf v ≡ l)
-  unfolding entriesShown
-  entries-fine l = on-fine (checkOf r Echoes v) (entriesOf v) l
-
-  time-fine : (t : LongTime) → timeOf r v ≡ Time t → (checkOf r Clock v ≡ Fine) × (timeAt v ≡ t)
-  unfolding timeOf
-  time-fine t = by-check (checkOf r Clock v)
-    where
-      by-check : (c : Checked) → onCheckedTime c (timeAt v) ≡ Time t → (c ≡ Fine) × (timeAt v ≡ t)
-      by-check Fine e = (refl, cc)
-      by-check (Unfit x) e = absurd (let z : _≡_ {A = ℕ} 0 1 = cc in omega arith)
-
-  pub fields-fine : (g : Ranged) (f : Fields) → fieldsOf r g v ≡ Shown f
-      → (checkOf r (Spans g) v ≡ Fine) × (isCut r g (length v) ≡ false) × (fieldsAt v ≡ f)
-  unfolding fieldsOf
-  fields-fine g f e =
-      let p = checked-fields r v (checkOf r (Spans g) v) _ f e in
-      by-test (isCut r g (length v)) (λ _ d. absurd (let z : _≡_ {A = ℕ} 0 1 = cc in omega arith))
-      (λ n d. (p .0, n, cc)) (p .1)
+use Rattle.claims.proofs.FitLaws.{kind-type, no-fault, no-summary, type-fine, chunks-record, times-record}
+use Rattle.claims.proofs.FitLaws.{clock-record, echoes-record, sums-record, numbers-fine, pairs-fine}
+use Rattle.claims.proofs.FitLaws.{entries-fine, time-fine, summary-fine, fields-fine}
 
 not-false : (b : Bool) → not b ≡ false → b ≡ true
 not-false true e = refl
@@ -181,35 +98,76 @@ module _ (s : List ℕ) (k : ℕ) (b : Both s k) where
       le-ltb (length v) 12 (omega (arith, shown-times (fieldsOf Standard Times (b .own)) refl e, b .longer))
 
   module _ (m : misleads s k ≡ false) where
-    -- what the crate shows is what is asked
-    same : (c : Record) → recordOf Crate v ≡ shown c → Answered Standard s k c
-    same c e =
-        let d : not (sameRecord c (b .asked)) ≡ false = rw (b .crate, b .standard, e, b .shows) at m in
-        let i : c ≡ b .asked = same-record c (b .asked) (not-false (sameRecord c (b .asked)) d) in
-        rw i (shown-answered Standard s k (b .asked) (shown (b .own)) (b .standard) (b .some) (b .shows))
+    -- what the crate shows, where it is more than type and length, is what is asked
+    is-asked : (c : Record) → isBare c ≡ false → recordOf Crate v ≡ shown c → c ≡ b .asked
+    is-asked c n e =
+        let d : not (sameRecord c (b .asked)) ≡ false = rw (b .crate, b .standard, e, b .shows, n) at m in
+        same-record c (b .asked) (not-false (sameRecord c (b .asked)) d)
+
+    same : (c : Record) → isBare c ≡ false → recordOf Crate v ≡ shown c → Answered Standard s k c
+    same c n e =
+        rw (is-asked c n e)
+        (shown-answered Standard s k (b .asked) (shown (b .own)) (b .standard) (b .some) (b .shows))
 
     fields-same : (g : Ranged) (f : Fields) → fieldsOf Crate g v ≡ Shown f → fieldsAsked Standard s k g ≡ Shown f
     fields-same (Chunks a) f e =
         let p = fields-fine Crate v (Chunks a) f e in
-        rw (p .2) at (same _ (chunks-record Crate v a (p .0)) .0)
+        rw (p .2) at (same _ refl (chunks-record Crate v a (p .0)) .0)
     fields-same Times f e =
         let p = fields-fine Crate v Times f e in
-        rw (p .2) at (same _ (times-record Crate v (p .1) (p .0)) .0)
+        rw (p .2) at (same _ refl (times-record Crate v (p .1) (p .0)) .0)
 
     pub as-standard : AsStandard s k
-    unfolding fieldsAsked numbersAsked pairsAsked timeAsked entriesAsked
+    unfolding fieldsAsked numbersAsked pairsAsked timeAsked entriesAsked summaryAsked
     as-standard =
         record {
           fields = λ g f e. fields-same g f (rw (b .crate) at e);
           numbers = λ a l e. let p = numbers-fine Crate v a l (rw (b .crate) at e) in
-              rw (p .1) at (same _ (chunks-record Crate v a (p .0)) .1);
+              rw (p .1) at (same _ refl (chunks-record Crate v a (p .0)) .1);
           pairs = λ l e. let p = pairs-fine Crate v l (rw (b .crate) at e) in
-              rw (p .1) at (same _ (times-record Crate v (whole-times (p .0)) (p .0)) .1);
+              rw (p .1) at (same _ refl (times-record Crate v (whole-times (p .0)) (p .0)) .1);
           time = λ t e. let p = time-fine Crate v t (rw (b .crate) at e) in
-              rw (p .1) at (same _ (clock-record Crate v (p .0)));
+              rw (p .1) at (same _ refl (clock-record Crate v (p .0)));
           entries = λ l e. let p = entries-fine Crate v l (rw (b .crate) at e) in
-              rw (p .1) at (same _ (echoes-record Crate v (p .0)));
+              rw (p .1) at (same _ refl (echoes-record Crate v (p .0)));
+          summary = λ x e. no-summary v (summary-fine Crate v x (rw (b .crate) at e) .0);
         }
+
+    -- type and length only: a summary, since the standard shows something
+    asked-summary : (x : SummaryOr) → onSummary x (λ y. shown (summed y)) ≡ shown (b .asked) → BareSummary s k bare
+    asked-summary (Stated y) e =
+        let i : b .asked ≡ summed y = cc in
+        record { here = refl; summary = y; there = rw (b .standard) (b .shows ∙ ap shown i) }
+    asked-summary (NoSummary z) e = not-shown e
+
+    bare-known : (t : KindOr) → kindOf (typeOf v) ≡ t → recordAs (knownTo Crate t) Crate v ≡ shown bare
+        → BareSummary s k bare
+    unfolding recordOf
+    bare-known (AKind (Spans g)) i e = absurd (by-kind Crate s k v (b .crate) bare (Spans g) e)
+    bare-known (AKind Clock) i e = absurd (by-kind Crate s k v (b .crate) bare Clock e)
+    bare-known (AKind Echoes) i e = absurd (by-kind Crate s k v (b .crate) bare Echoes e)
+    bare-known (AKind Statistics) i e =
+        let o : kindOf (typeOf (b .own)) ≡ AKind Statistics = rw (b .type) at i in
+        asked-summary (summaryOf Standard (b .own)) (rw o at (b .shows))
+    bare-known NoKind i e =
+        let o : kindOf (typeOf (b .own)) ≡ NoKind = rw (b .type) at i in
+        let c : shown bare ≡ shown (b .asked) = rw o at (b .shows) in
+        absurd (b .some (let z : b .asked ≡ bare = cc in z))
+
+    bare-summary : (c : Record) → isBare c ≡ true → recordOf Crate v ≡ shown c → BareSummary s k c
+    unfolding recordOf
+    bare-summary bare n e = bare-known (kindOf (typeOf v)) refl e
+    bare-summary (reported a f l) n e = true≢false n
+    bare-summary (received f l) n e = true≢false n
+    bare-summary (clocked t) n e = true≢false n
+    bare-summary (echoed l) n e = true≢false n
+    bare-summary (summed x) n e = true≢false n
+
+    pub as-shown : AsShown s k
+    as-shown x e =
+        let d : recordOf Crate v ≡ shown x = rw (b .crate) at e in
+        either (isBare x) (λ t. inr (bare-summary x t d))
+        (λ f. inl (rw (b .standard) (b .shows ∙ ap shown (sym (is-asked x f d)))))
 
   -- the other way round
   module _ (h : AsStandard s k) where
@@ -218,11 +176,12 @@ module _ (s : List ℕ) (k : ℕ) (b : Both s k) where
     answered (received f l) e = (h .fields Times f (e .0), h .pairs l (e .1))
     answered (clocked t) e = h .time t e
     answered (echoed l) e = h .entries l e
+    answered (summed x) e = h .summary x e
     answered bare e = e
 
     -- what the standard answers is all that the block shows
     shown-own : (c : Record) → Answered Standard s k c → recordOf Standard (b .own) ≡ shown c
-    unfolding fieldsAsked numbersAsked pairsAsked timeAsked entriesAsked
+    unfolding fieldsAsked numbersAsked pairsAsked timeAsked entriesAsked summaryAsked
     shown-own (reported a f l) e =
         let p = fields-fine Standard (b .own) (Chunks a) f (rw (b .standard) at (e .0)) in
         let q = numbers-fine Standard (b .own) a l (rw (b .standard) at (e .1)) in
@@ -239,20 +198,10 @@ module _ (s : List ℕ) (k : ℕ) (b : Both s k) where
     shown-own (echoed l) e =
         let p = entries-fine Standard (b .own) l (rw (b .standard) at e) in
         echoes-record Standard (b .own) (p .0) ∙ ap (λ (x : List Echo). shown (echoed x)) (p .1)
+    shown-own (summed x) e =
+        let p = summary-fine Standard (b .own) x (rw (b .standard) at e) in
+        sums-record Standard (b .own) (p .0) ∙ ap (λ (y : Summary). shown (summed y)) (p .1)
     shown-own bare e = absurd e
-
-    -- a block of no kind would show the standard as much
-    bare-own : (t : KindOr) → kindOf (typeOf v) ≡ t → recordAs t Crate v ≡ shown bare → ⊥
-    unfolding recordOf
-    bare-own (AKind t) i e = by-kind Crate s k v (b .crate) bare t e
-    bare-own NoKind i e =
-        let o : kindOf (typeOf (b .own)) ≡ NoKind = rw (b .type) at i in
-        let c : shown bare ≡ shown (b .asked) = rw o at (b .shows) in
-        b .some (let z : b .asked ≡ bare = cc in z)
-
-    never-bare : recordOf Crate v ≡ shown bare → ⊥
-    unfolding recordOf
-    never-bare e = bare-own (kindOf (typeOf v)) refl e
 
     pub no-misleading : misleads s k ≡ false
     no-misleading = rw (b .crate, b .standard) (by-shown (recordOf Crate v) refl)
@@ -260,5 +209,7 @@ module _ (s : List ℕ) (k : ℕ) (b : Both s k) where
         by-shown : (x : Or Record) → recordOf Crate v ≡ x → differs x (recordOf Standard (b .own)) ≡ false
         by-shown (refused z) e = refl
         by-shown (shown c) e =
-            let a = shown-answered Crate s k c (shown v) (b .crate) (λ i. never-bare (e ∙ ap shown i)) e in
-            rw (shown-own c (answered c a), same-self (numbersRow c))
+            either (isBare c) (λ t. rw t)
+            (λ f.
+            let a = shown-answered Crate s k c (shown v) (b .crate) (λ i. true≢false (sym f ∙ ap isBare i)) e in
+            rw (f, shown-own c (answered c a), same-self (numbersRow c)))

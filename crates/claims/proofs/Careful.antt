@@ -17,7 +17,7 @@ use Rattle.def_refusals.specs.declared.Checked.the-variants.{Fine, Unfit}
 use Rattle.def_refusals.specs.Answers.{shown, refused, onFine}
 use Rattle.def_wire.specs.declared.Reading.the-variants.{Crate}
 use Rattle.def_wire.specs.Packet.{countOf, locate, viewOf}
-use Rattle.def_questions.specs.Packets.{fieldsAsked, numbersAsked, pairsAsked, entriesAsked, timeAsked}
+use Rattle.def_questions.specs.Packets.{fieldsAsked, numbersAsked, pairsAsked, entriesAsked, timeAsked, summaryAsked}
 use Rattle.def_jobs.specs.declared.Layout.the-variants.{Careful}
 use Rattle.def_jobs.specs.Jobs.{Job, cutJob, askedPadding, jobsOf, jobsFault, askedOf}
 use Rattle.def_jobs.specs.Layout.{blockBytes, blocksBytes, layoutOf}
@@ -25,21 +25,22 @@ use Rattle.def_jobs.specs.Writing.{misleads, misleadingFrom, sizeFault, writeFa
 use Rattle.written.specs.Shows.{recordAt, blocksIn}
 use Rattle.written.proofs.Lists.{Each, each-at}
 use Rattle.written.proofs.RecordsLaws.{Body, bodies, Fit, fit, written, some-record, on-fine}
+use Rattle.written.proofs.RecordsLaws.{not-shown}
 use Rattle.written.proofs.JobLaws.{block-laid}
 use Rattle.written.proofs.Shows.{view-at, good-at}
 use Rattle.old_readers.proofs.PacketLaws.{crate-count, crate-view, block-some}
 use Rattle.old_readers.proofs.PaddedLaws.{crate-padded, crate-empty}
 use Rattle.old_readers.proofs.FaultLaws.{refused-nobody}
-use Rattle.claims.specs.Careful.{AsStandard, NotMisled, Judged, FirstMisleading, Fifteen, Unread}
+use Rattle.claims.specs.Careful.{AsStandard, AsShown, NotMisled, Judged, FirstMisleading, Fifteen, Unread}
 use Rattle.claims.proofs.Taken.{listed-taken}
 use Rattle.claims.proofs.RoundTrip.{not-bare}
-use Rattle.claims.proofs.AsStandard.{Both, as-standard, no-misleading}
+use Rattle.claims.proofs.AsStandard.{Both, as-standard, as-shown, no-misleading}
 
 -- ---- a block that the crate refuses
 
 module _ (s : List ℕ) (k : ℕ) (x : Refusal) (e : viewOf Crate s k ≡ refused x) where
   unseen : AsStandard s k
-  unfolding fieldsAsked numbersAsked pairsAsked timeAsked entriesAsked
+  unfolding fieldsAsked numbersAsked pairsAsked timeAsked entriesAsked summaryAsked
   unseen =
       record {
         fields = λ g f p. absurd (let q = rw e at p in let z : _≡_ {A = ℕ} 0 1 = cc in omega arith);
@@ -47,7 +48,11 @@ module _ (s : List ℕ) (k : ℕ) (x : Refusal) (e : viewOf Crate s k ≡ refuse
         pairs = λ l p. absurd (let q = rw e at p in let z : _≡_ {A = ℕ} 0 1 = cc in omega arith);
         time = λ t p. absurd (let q = rw e at p in let z : _≡_ {A = ℕ} 0 1 = cc in omega arith);
         entries = λ l p. absurd (let q = rw e at p in let z : _≡_ {A = ℕ} 0 1 = cc in omega arith);
+        summary = λ x p. absurd (let q = rw e at p in let z : _≡_ {A = ℕ} 0 1 = cc in omega arith);
       }
+
+  unshown : AsShown s k
+  unshown x p = not-shown (rw e at p)
 
   unseen-misleads : misleads s k ≡ false
   unseen-misleads = rw e
@@ -145,8 +150,9 @@ module _ (h : Job) (js : List Job) (s : List ℕ) (w : Fit Careful h js s) (bh :
       (λ t. let z : askedPadding h ≡ 0 → ⊥ = eqb-false _ _ t in
       g _ (view-refused s k _ (crate-padded Careful h js s w bh b (omega (arith, z)))))
 
-  no-more : (k : ℕ) → misleads s k ≡ false → AsStandard s k
-  no-more k m = by-view k (λ _ c. as-standard s k c m) (λ x e. unseen s k x e)
+  no-more : (k : ℕ) → misleads s k ≡ false → AsStandard s k × AsShown s k
+  no-more k m =
+      by-view k (λ _ c. (as-standard s k c m, as-shown s k c m)) (λ x e. (unseen s k x e, unshown s k x e))
 
   no-less : (k : ℕ) → AsStandard s k → misleads s k ≡ false
   no-less k a = by-view k (λ _ c. no-misleading s k c a) (λ x e. unseen-misleads s k x e)
@@ -175,7 +181,7 @@ module _ (h : Job) (js : List Job) (s : List ℕ) (w : Fit Careful h js s) (bh :
       let p = first-misleads s (length js) 0 k e in
       record {
         misleads = λ a. true≢false (sym (no-less k a) ∙ p .0);
-        first = λ i l. no-more i (p .1 i (omega arith) l);
+        first = λ i l. no-more i (p .1 i (omega arith) l) .0;
       }
 
   back : (k : ℕ) → FirstMisleading s k → misleadingFrom s 0 (length js) ≡ Unfit (Misleads k)
@@ -183,9 +189,9 @@ module _ (h : Job) (js : List Job) (s : List ℕ) (w : Fit Careful h js s) (bh :
       either (misleads s k)
       (λ t. misleads-first s (length js) 0 k (omega arith) (omega (arith, within k t)) t
       (λ i _ l. no-less i (f .first i l)))
-      (λ m. absurd (f .misleads (no-more k m)))
+      (λ m. absurd (f .misleads (no-more k m .0)))
 
-  all : misleadingFrom s 0 (length js) ≡ Fine → (k : ℕ) → AsStandard s k
+  all : misleadingFrom s 0 (length js) ≡ Fine → (k : ℕ) → AsStandard s k × AsShown s k
   all e k =
       either (ltb k (length js))
       (λ l. let m : k < length js = ltb-true _ _ l in
@@ -273,14 +279,14 @@ not-misled list out out′ n bytes p =
     let g : Judged list = record { bytes = bytes; good = w .0; fits = w .1 } in
     let f : fifteenOf list ≡ Fine =
     on-fine (fifteenOf list) (laid list) (take n out′) (sym (judged-answer list g) ∙ e) .0 in
-    rw (← w .2) (counts g, seen g f)
+    rw (← w .2) (counts g, (λ k. seen g f k .0), (λ k. seen g f k .1))
   where
     counts : Judged list → (m : ℕ) → countOf Crate (laid list) ≡ Done m → m ≡ blocksIn (jobsOf list)
     counts g =
         by-records (λ _ n s. (m : ℕ) → countOf Crate s ≡ Done m → m ≡ n)
         list g (λ h js w bh b. counted h js _ w bh b)
 
-    seen : Judged list → fifteenOf list ≡ Fine → (k : ℕ) → AsStandard (laid list) k
+    seen : Judged list → fifteenOf list ≡ Fine → (k : ℕ) → AsStandard (laid list) k × AsShown (laid list) k
     seen g =
-        by-records (λ _ n s. misleadingFrom s 0 n ≡ Fine → (k : ℕ) → AsStandard s k)
+        by-records (λ _ n s. misleadingFrom s 0 n ≡ Fine → (k : ℕ) → AsStandard s k × AsShown s k)
         list g (λ h js w bh b. all h js _ w bh b)

@@ -43,7 +43,7 @@ use Rattle.written.proofs.RecordsLaws.{not-shown}
 use Rattle.written.proofs.Shows.{written-shows}
 use Rattle.claims.specs.NoLostRun.{WordsClear, PacketsClear, ChunkClear}
 use Rattle.claims.proofs.Taken.{listed-taken}
-use Rattle.claims.proofs.AsStandard.{no-fault, fields-fine}
+use Rattle.claims.proofs.FitLaws.{no-fault, fields-fine}
 use Rattle.claims.proofs.Marks.{fine-asked}
 
 -- ---- words from marks

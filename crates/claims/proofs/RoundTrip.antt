@@ -8,7 +8,7 @@ use lib.ListN.{take}
 use Rattle.laws.proofs.Tests.{true≢false}
 use Rattle.def_wire.specs.declared.Reading.the-variants.{Standard}
 use Rattle.def_wire.specs.declared.Ranged.the-variants.{Chunks, Times}
-use Rattle.def_wire.specs.declared.Kind.the-variants.{Spans, Clock, Echoes}
+use Rattle.def_wire.specs.declared.Kind.the-variants.{Spans, Clock, Echoes, Statistics}
 use Rattle.def_wire.specs.declared.KindOr.{KindOr}
 use Rattle.def_wire.specs.declared.KindOr.the-variants.{AKind, NoKind}
 use Rattle.def_wire.specs.Packet.{viewOf}
@@ -30,6 +30,7 @@ asks-some (AKind (Spans (Chunks a))) j g e = let z : _≡_ {A = ℕ} 0 1 = cc in
 asks-some (AKind (Spans Times)) j g e = let z : _≡_ {A = ℕ} 0 1 = cc in omega arith
 asks-some (AKind Clock) j g e = let z : _≡_ {A = ℕ} 0 1 = cc in omega arith
 asks-some (AKind Echoes) j g e = let z : _≡_ {A = ℕ} 0 1 = cc in omega arith
+asks-some (AKind Statistics) j g e = let z : _≡_ {A = ℕ} 0 1 = cc in omega arith
 asks-some NoKind j g e = true≢false g
 
 pub not-bare : (j : Job) → isBlockJob j ≡ true → askedOf j ≡ bare → ⊥

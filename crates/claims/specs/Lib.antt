@@ -2,6 +2,7 @@
 --     Cursor     the number cursor by calls of any budgets lists what the list functions list
 --     Walk       the reader from `new` by `moved` comes to each block
 --     RoundTrip  the reading functions answer of a written packet what its records ask
+--     Absent     a summary's numbers whose flags are clear are written, and read back as absent
 --     Careful    a carefully written packet misleads no reader that keeps the old reading
 --     Marks      words from heard marks cover them, and a report made of them reads back as the numbers heard
 --     NoLostRun  nothing made here holds a run of ones of no length: words from marks, packets, one chunk word
@@ -12,6 +13,7 @@
 pub mod Cursor
 pub mod Walk
 pub mod RoundTrip
+pub mod Absent
 pub mod Careful
 pub mod Marks
 pub mod NoLostRun

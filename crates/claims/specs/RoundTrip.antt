@@ -15,11 +15,12 @@ use Rattle.def_wire.specs.declared.Reading.the-variants.{Standard}
 use Rattle.def_wire.specs.declared.Ranged.the-variants.{Chunks, Times}
 use Rattle.def_wire.specs.declared.FieldsOr.the-variants.{Shown}
 use Rattle.def_wire.specs.declared.TimeOr.the-variants.{Time}
+use Rattle.def_wire.specs.declared.SummaryOr.the-variants.{Stated}
 use Rattle.def_wire.specs.Bytes.{byteAt}
 use Rattle.def_wire.specs.Packet.{countOf}
-use Rattle.def_questions.specs.Packets.{fieldsAsked, numbersAsked, pairsAsked, entriesAsked, timeAsked}
+use Rattle.def_questions.specs.Packets.{fieldsAsked, numbersAsked, pairsAsked, entriesAsked, timeAsked, summaryAsked}
 use Rattle.def_jobs.specs.declared.Layout.{Layout}
-use Rattle.def_jobs.specs.Shown.{Record, reported, received, clocked, echoed, bare}
+use Rattle.def_jobs.specs.Shown.{Record, reported, received, clocked, echoed, summed, bare}
 use Rattle.def_jobs.specs.Jobs.{Job, jobsOf, senderOf, askedOf}
 use Rattle.def_jobs.specs.Writing.{packetOf}
 use Rattle.written.specs.Shows.{recordAt, blocksIn}
@@ -27,12 +28,13 @@ use Rattle.xr.specs.declared.Parsed.the-variants.{Packet}
 use Rattle.xr.specs.Parsed.{parsedOf}
 
 -- by its kind: `block::fields_in` and `numbers::numbers_in`; `fields_in` and `packet_receipt_time::pairs_in`;
--- `block::time_in`; `dlrr::entries_in`. A record of no kind is never written
+-- `block::time_in`; `dlrr::entries_in`; `summary::summary_in`. A record of no kind is never written
 abbrev pub Answered : Reading → List ℕ → ℕ → Record → Type 0
 Answered r s k (reported a f l) = (fieldsAsked r s k (Chunks a) ≡ Shown f) × (numbersAsked r s k a ≡ shown l)
 Answered r s k (received f l) = (fieldsAsked r s k Times ≡ Shown f) × (pairsAsked r s k ≡ shown l)
 Answered r s k (clocked t) = timeAsked r s k ≡ Time t
 Answered r s k (echoed l) = entriesAsked r s k ≡ shown l
+Answered r s k (summed x) = summaryAsked r s k ≡ Stated x
 Answered r s k bare = ⊥
 
 pub record ReadBack (js : List Job) (s : List ℕ) : Type 0 where

@@ -19,11 +19,12 @@ use Rattle.def_wire.specs.declared.Rle.{Rle}
 use Rattle.def_wire.specs.declared.Ranged.{Ranged}
 use Rattle.def_wire.specs.declared.Ranged.the-variants.{Chunks, Times}
 use Rattle.def_wire.specs.declared.Kind.{Kind}
-use Rattle.def_wire.specs.declared.Kind.the-variants.{Spans, Clock, Echoes}
+use Rattle.def_wire.specs.declared.Kind.the-variants.{Spans, Clock, Echoes, Statistics}
 use Rattle.def_wire.specs.declared.KindOr.{KindOr}
 use Rattle.def_wire.specs.declared.KindOr.the-variants.{AKind, NoKind}
 use Rattle.def_wire.specs.Packet.{placeOf, lengthAt, nextPlace, viewFrom, countOf}
-use Rattle.def_wire.specs.Block.{headerData, typeOf, blockLength, kindOf, checkOf, fieldsOf, timeOf}
+use Rattle.def_wire.specs.Block.{headerData, typeOf, blockLength, kindIn, checkOf, fieldsOf, timeOf}
+use Rattle.def_wire.specs.Summary.{summaryOf}
 use Rattle.xr.proofs.WalkLaws.{place-next, count-done, counted-within}
 use Rattle.reader.proofs.PlacesLaws.{next-within}
 use Rattle.def_questions.specs.Questions.{numbersShown, pairsShown, entriesShown}
@@ -31,7 +32,7 @@ use Rattle.def_refusals.specs.Numbers.{numbered}
 use Rattle.def_text.specs.Numerals.{ascii, decimalWithin}
 use Rattle.def_dump.specs.Lines.{refusedLine, blockLine, numbersLine, pairsLine, entriesLine}
 use Rattle.def_dump.specs.Dump.{listOr, fieldsOr, timeOr, contentsOf, unlessUnfit, blockText, blocksText}
-use Rattle.def_dump.specs.Dump.{countedText, readingText, longestDumped, dumpText}
+use Rattle.def_dump.specs.Dump.{summaryOr, countedText, readingText, longestDumped, dumpText}
 
 module _ (r : Reading) (v : List ℕ) where
   pub ranged-chunks : (g : Ranged) (a : Rle) → g ≡ Chunks a
@@ -52,23 +53,27 @@ module _ (r : Reading) (v : List ℕ) where
   unfolding contentsOf
   echo-contents k e = rw e
 
+  pub statistics-contents : (k : Kind) → k ≡ Statistics → summaryOr (summaryOf r v) ≡ contentsOf r k v
+  unfolding contentsOf
+  statistics-contents k e = rw e
+
   -- a block's line is that of its header bytes h
   module _ (i : ℕ) (h : List ℕ) (t l u : ℕ) (e : h ≡ headerData v) (et : t ≡ getD h 0 0)
       (el : l ≡ (getD h 2 0 * 256 + getD h 3 0 + 1) * 4) (eu : u ≡ getD h 0 0) where
     line-is : blockLine i t l ≡ blockLine i (typeOf v) (blockLength v)
     line-is = rw (et, el, e)
 
-    pub kind-shown : (o : KindOr) (k : Kind) → o ≡ AKind k → o ≡ kindOf u
+    pub kind-shown : (o : KindOr) (k : Kind) → o ≡ AKind k → o ≡ kindIn r u
         → blockLine i t l ++ unlessUnfit (checkOf r k v) (contentsOf r k v) ≡ blockText r i v
     unfolding blockText
     kind-shown o k a b =
-        let f : kindOf (typeOf v) ≡ AKind k = (rw (eu, e) at (sym b)) ∙ a in
+        let f : kindIn r (typeOf v) ≡ AKind k = (rw (eu, e) at (sym b)) ∙ a in
         rw (line-is, f)
 
-    pub kind-bare : (o : KindOr) → o ≡ NoKind → o ≡ kindOf u → blockLine i t l ≡ blockText r i v
+    pub kind-bare : (o : KindOr) → o ≡ NoKind → o ≡ kindIn r u → blockLine i t l ≡ blockText r i v
     unfolding blockText
     kind-bare o a b =
-        let f : kindOf (typeOf v) ≡ NoKind = (rw (eu, e) at (sym b)) ∙ a in
+        let f : kindIn r (typeOf v) ≡ NoKind = (rw (eu, e) at (sym b)) ∙ a in
         rw (line-is, f) (sym (append-nil (blockLine i (typeOf v) (blockLength v))))
 
 -- from one block to the next, of a packet that is accepted with n blocks

@@ -4,9 +4,11 @@ pub mod Refusals
 pub mod Wire
 pub mod WireWalk
 pub mod WireBlock
+pub mod WireSummary
 pub mod Standard
 pub mod Crate
 pub mod Questions
+pub mod QuestionsSummary
 pub mod Cursor
 pub mod CursorCalls
 pub mod Jobs
@@ -16,11 +18,15 @@ pub mod JobsWriting
 pub mod JobsOrder
 pub mod JobsSize
 pub mod JobsLargest
+pub mod JobsSummary
 pub mod Marks
 pub mod Portions
 pub mod PortionCalls
+pub mod PortionSummary
 pub mod Text
 pub mod Dump
 pub mod EventLines
+pub mod DumpSummary
 pub mod Probe
 pub mod ProbePortions
+pub mod ProbeSummary

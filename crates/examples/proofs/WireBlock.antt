@@ -13,10 +13,12 @@ unfolding numbered answerOf filledOf pairUp headerOf placeOf walkFrom countOf lo
     standardRule crateRule fitness checkOf fieldsOf timeOf
 kinds-hold =
     record {
-      numbers = (refl, refl, refl, refl, refl);
+      numbers = (refl, refl, refl, refl, refl, refl);
       rle = refl;
       ranged = refl;
       kinds = refl;
+      to-the-standard = refl;
+      to-the-crate = refl;
     }
 
 pub parts-hold : Parts
@@ -42,10 +44,12 @@ length-rules-hold =
       standard-spans = (refl, refl, refl, refl, refl);
       standard-clock = (refl, refl, refl);
       standard-echoes = (refl, refl, refl, refl, refl, refl, refl);
+      standard-summary = (refl, refl, refl, refl);
       crate-chunks = (refl, refl, refl);
       crate-times = (refl, refl);
       crate-clock = (refl, refl, refl);
       crate-echoes = (refl, refl, refl, refl, refl, refl, refl);
+      crate-summary = (refl, refl);
       of-a-view = (refl, refl, refl, refl);
     }
 
@@ -59,7 +63,7 @@ lost-runs-hold =
       among = (refl, refl, refl, refl, refl, refl, refl);
       of-words = (refl, refl, refl, refl);
       other-words = refl;
-      of-kinds = (refl, refl, refl, refl, refl);
+      of-kinds = (refl, refl, refl, refl, refl, refl);
       refusal = (refl, refl, refl, refl, refl);
       past-the-range = refl;
       not-a-word = (refl, refl, refl, refl, refl);

@@ -76,7 +76,7 @@ pub record Blocks : Type 0 where
       ≡ textOf ("block 0 type 5 length 16" ∷ "entries 10 11 12" ∷ [])
   -- other types show type and length only
   pub others :
-      (blockText Standard 0 (rows (0x06000000 ∷ [])) ≡ textOf ("block 0 type 6 length 4" ∷ []))
+      (blockText Standard 0 (rows (0x07000000 ∷ [])) ≡ textOf ("block 0 type 7 length 4" ∷ []))
       × (blockText Crate 0 (rows (0x00000000 ∷ 1 ∷ [])) ≡ textOf ("block 0 type 0 length 4" ∷ []))
   -- one `refused 7` in place of all that would follow
   pub unfit :

@@ -113,10 +113,11 @@ pub record BlockRecords : Type 0 where
   pub time : map (fits 4) (0 ∷ 7 ∷ 8 ∷ 9 ∷ 16 ∷ []) ≡ bad ∷ bad ∷ Fine ∷ bad ∷ bad ∷ []
   -- kind 5: whole entries, or none
   pub entries : map (fits 5) (0 ∷ 4 ∷ 11 ∷ 12 ∷ 13 ∷ 24 ∷ []) ≡ Fine ∷ bad ∷ bad ∷ Fine ∷ bad ∷ Fine ∷ []
-  -- no other kind: 0, 6, 255, and those whose low byte alone would do
+  -- no other kind: 0, 7, 255, and those whose low byte alone would do
   pub others :
-      (map (λ k. fits k 0) (0 ∷ 6 ∷ 255 ∷ 261 ∷ 65536 ∷ []) ≡ bad ∷ bad ∷ bad ∷ bad ∷ bad ∷ [])
-      × (map (λ k. fits k 6) (0 ∷ 6 ∷ []) ≡ bad ∷ bad ∷ []) × (map (λ k. fits k 12) (6 ∷ 257 ∷ []) ≡ bad ∷ bad ∷ [])
+      (map (λ k. fits k 0) (0 ∷ 7 ∷ 255 ∷ 261 ∷ 65536 ∷ []) ≡ bad ∷ bad ∷ bad ∷ bad ∷ bad ∷ [])
+      × (map (λ k. fits k 6) (0 ∷ 7 ∷ []) ≡ bad ∷ bad ∷ []) × (map (λ k. fits k 12) (7 ∷ 257 ∷ []) ≡ bad ∷ bad ∷ [])
+      × (map (λ k. fits k 38) (0 ∷ 7 ∷ 262 ∷ []) ≡ bad ∷ bad ∷ bad ∷ [])
   -- a thinning of 15 and of 16, in kinds 1 to 3; one whose low byte alone would do
   pub thinning :
       (map (λ t. isBlockJob (of-kind 1 (body 0 0 t []))) (0 ∷ 15 ∷ 16 ∷ 256 ∷ []) ≡ true ∷ true ∷ false ∷ false ∷ [])
@@ -192,4 +193,4 @@ pub record Asked : Type 0 where
   -- eight bytes are one number
   pub time : askedOf (of-kind 4 (8 ∷ 7 ∷ 6 ∷ 5 ∷ 4 ∷ 3 ∷ 2 ∷ 1 ∷ [])) ≡ clocked (record { 0 = 0x0102030405060708 })
   pub entries : askedOf (of-kind 5 (le4s (1 ∷ 2 ∷ 3 ∷ 4 ∷ 5 ∷ 6 ∷ []))) ≡ echoed (echo 1 2 3 ∷ echo 4 5 6 ∷ [])
-  pub other : (askedOf (of-kind 0 (9 ∷ [])) ≡ bare) × (askedOf (of-kind 6 (9 ∷ [])) ≡ bare)
+  pub other : (askedOf (of-kind 0 (9 ∷ [])) ≡ bare) × (askedOf (of-kind 7 (9 ∷ [])) ≡ bare)

@@ -75,7 +75,7 @@ pub record Blocks : Type 0 where
   pub entries :
       (blockBytes Plain (of-kind 5 (le4s (1 ∷ 2 ∷ 0x01020304 ∷ []))) ≡ rows (0x05000003 ∷ 1 ∷ 2 ∷ 0x01020304 ∷ []))
       × (blockBytes Careful (of-kind 5 []) ≡ rows (0x05000000 ∷ []))
-  pub other : blockBytes Plain (of-kind 6 (1 ∷ 2 ∷ 3 ∷ 4 ∷ [])) ≡ []
+  pub other : blockBytes Plain (of-kind 7 (1 ∷ 2 ∷ 3 ∷ 4 ∷ [])) ≡ []
   -- one behind the other
   pub all :
       (blocksBytes Plain (of-kind 5 [] ∷ of-kind 4 (replicate 8 1) ∷ [])

@@ -76,7 +76,7 @@ pub record BlockFaults : Type 0 where
       × (blockFault 99 (rows (0x05000001 ∷ [])) ≡ Unfit (BadBlockLength 16 8))
       × (blockFault 99 (rows (0x05000004 ∷ [])) ≡ Unfit (BadBlockLength 28 20))
   -- other types have no rule
-  pub others : (blockFault 99 (rows (0x00000000 ∷ [])) ≡ Fine) × (blockFault 99 (rows (0x06000000 ∷ [])) ≡ Fine)
+  pub others : (blockFault 99 (rows (0x00000000 ∷ [])) ≡ Fine) × (blockFault 99 (rows (0x07000000 ∷ [])) ≡ Fine)
   -- 6, then 7
   pub six-first :
       (blockFault 4 (rows (0x01000001 ∷ [])) ≡ Unfit (BlockTooLong 8 4))
@@ -136,7 +136,7 @@ pub record BlockSoFar : Type 0 where
   pub of-others :
       (blockEvents (rows (0x63000001 ∷ [])) ≡ Start 99 8 ∷ [])
       × (blockEvents (rows (0x63000001 ∷ 5 ∷ [])) ≡ Start 99 8 ∷ [])
-      × (blockEvents (rows (0x06000000 ∷ [])) ≡ Start 6 4 ∷ [])
+      × (blockEvents (rows (0x07000000 ∷ [])) ≡ Start 7 4 ∷ [])
 
 -- three blocks: of 8 bytes, a clock, of 4
 abbrev pub mixed : List ℕ

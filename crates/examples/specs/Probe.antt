@@ -262,5 +262,5 @@ pub record OfWriting : Type 0 where
 -- kinds that are not served
 pub record NotServed : Type 0 where
   pub others :
-      (answerTo 0 packet4 ≡ cut) × (answerTo 13 (lists 0 0 1 4 packet4) ≡ cut)
+      (answerTo 0 packet4 ≡ cut) × (answerTo 16 (lists 0 0 1 4 packet4) ≡ cut)
       × (answerTo 15 (lists 0 0 1 4 packet4) ≡ cut)

@@ -11,37 +11,44 @@ use Rattle.def_refusals.specs.declared.Checked.the-variants.{Fine, Unfit}
 use Rattle.def_wire.specs.declared.Reading.the-variants.{Standard, Crate}
 use Rattle.def_wire.specs.declared.Rle.the-variants.{Loss, Duplicate}
 use Rattle.def_wire.specs.declared.Ranged.the-variants.{Chunks, Times}
-use Rattle.def_wire.specs.declared.Kind.the-variants.{Spans, Clock, Echoes}
+use Rattle.def_wire.specs.declared.Kind.the-variants.{Spans, Clock, Echoes, Statistics}
 use Rattle.def_wire.specs.declared.RleOr.the-variants.{AnRle, NoRle}
 use Rattle.def_wire.specs.declared.RangedOr.the-variants.{ARange, NoRange}
 use Rattle.def_wire.specs.declared.KindOr.the-variants.{AKind, NoKind}
 use Rattle.def_wire.specs.declared.FieldsOr.the-variants.{Shown, NoneOf}
 use Rattle.def_wire.specs.declared.TimeOr.the-variants.{Time, NoTime}
 use Rattle.def_wire.specs.Block.{headerData, typeOf, specificOf, blockLength, fieldsAt, timeAt, kindType}
-use Rattle.def_wire.specs.Block.{rleOf, rangedOf, kindOf, rule, nextFit, standardRule, crateRule, fitness, checkOf}
-use Rattle.def_wire.specs.Block.{isCut, fieldsOf, timeOf, wordsAt, lostRun, has, clearRule, wordRule}
+use Rattle.def_wire.specs.Block.{rleOf, rangedOf, kindOf, kindIn, rule, nextFit, standardRule, crateRule, fitness}
+use Rattle.def_wire.specs.Block.{checkOf, isCut, fieldsOf, timeOf, wordsAt, lostRun, has, clearRule, wordRule}
 use Rattle.examples.specs.Rows.{fields, rows}
 
 -- the numbers that ask for a kind, those around them, and those that a byte or two bytes would take for one
 abbrev pub asked : List ℕ
-asked = 0 ∷ 1 ∷ 2 ∷ 3 ∷ 4 ∷ 5 ∷ 6 ∷ 255 ∷ 257 ∷ 65536 ∷ 65537 ∷ []
+asked = 0 ∷ 1 ∷ 2 ∷ 3 ∷ 4 ∷ 5 ∷ 6 ∷ 7 ∷ 255 ∷ 257 ∷ 262 ∷ 65536 ∷ 65537 ∷ []
 
 pub record Kinds : Type 0 where
-  -- loss 1, duplicate 2, receipt times 3, reference time 4, DLRR 5
+  -- loss 1, duplicate 2, receipt times 3, reference time 4, DLRR 5, statistics summary 6
   pub numbers :
       (kindType (Spans (Chunks Loss)) ≡ 1) × (kindType (Spans (Chunks Duplicate)) ≡ 2) × (kindType (Spans Times) ≡ 3)
-      × (kindType Clock ≡ 4) × (kindType Echoes ≡ 5)
+      × (kindType Clock ≡ 4) × (kindType Echoes ≡ 5) × (kindType Statistics ≡ 6)
   pub rle :
       map rleOf asked
-      ≡ NoRle ∷ AnRle Loss ∷ AnRle Duplicate ∷ NoRle ∷ NoRle ∷ NoRle ∷ NoRle ∷ NoRle ∷ NoRle ∷ NoRle ∷ NoRle ∷ []
+      ≡ NoRle ∷ AnRle Loss ∷ AnRle Duplicate ∷ NoRle ∷ NoRle ∷ NoRle ∷ NoRle ∷ NoRle ∷ NoRle ∷ NoRle ∷ NoRle
+      ∷ NoRle ∷ NoRle ∷ []
   pub ranged :
       map rangedOf asked
       ≡ NoRange ∷ ARange (Chunks Loss) ∷ ARange (Chunks Duplicate) ∷ ARange Times ∷ NoRange ∷ NoRange ∷ NoRange
-      ∷ NoRange ∷ NoRange ∷ NoRange ∷ NoRange ∷ []
+      ∷ NoRange ∷ NoRange ∷ NoRange ∷ NoRange ∷ NoRange ∷ NoRange ∷ []
   pub kinds :
       map kindOf asked
       ≡ NoKind ∷ AKind (Spans (Chunks Loss)) ∷ AKind (Spans (Chunks Duplicate)) ∷ AKind (Spans Times) ∷ AKind Clock
-      ∷ AKind Echoes ∷ NoKind ∷ NoKind ∷ NoKind ∷ NoKind ∷ NoKind ∷ []
+      ∷ AKind Echoes ∷ AKind Statistics ∷ NoKind ∷ NoKind ∷ NoKind ∷ NoKind ∷ NoKind ∷ NoKind ∷ []
+  -- the standard knows all of these, the crate all but type 6
+  pub to-the-standard : map (kindIn Standard) asked ≡ map kindOf asked
+  pub to-the-crate :
+      map (kindIn Crate) asked
+      ≡ NoKind ∷ AKind (Spans (Chunks Loss)) ∷ AKind (Spans (Chunks Duplicate)) ∷ AKind (Spans Times) ∷ AKind Clock
+      ∷ AKind Echoes ∷ NoKind ∷ NoKind ∷ NoKind ∷ NoKind ∷ NoKind ∷ NoKind ∷ NoKind ∷ []
 
 -- a type 1 block of 16 bytes: specific byte 0xf2, every field's bytes different
 abbrev pub a-loss : List ℕ
@@ -87,6 +94,11 @@ pub record LengthRules : Type 0 where
       × (standardRule Echoes 20 ≡ Unfit (BadBlockLength 28 20))
       × (standardRule Echoes 24 ≡ Unfit (BadBlockLength 28 24))
       × (standardRule Echoes 28 ≡ Fine)
+  -- type 6: L = 40
+  pub standard-summary :
+      (standardRule Statistics 36 ≡ Unfit (BadBlockLength 40 36)) × (standardRule Statistics 40 ≡ Fine)
+      × (standardRule Statistics 44 ≡ Unfit (BadBlockLength 40 44))
+      × (standardRule Statistics 4 ≡ Unfit (BadBlockLength 40 4))
   -- crate, types 1 and 2: L ≥ 12, whatever is left; 12 and L
   pub crate-chunks :
       (crateRule (Spans (Chunks Loss)) 8 40 ≡ Unfit (BadBlockLength 12 8))
@@ -105,6 +117,9 @@ pub record LengthRules : Type 0 where
       × (crateRule Echoes 4 20 ≡ Unfit (BadBlockLength 8 20))
       × (crateRule Echoes 28 28 ≡ Unfit (BadBlockLength 40 28))
       × (crateRule Echoes 32 40 ≡ Fine)
+  -- type 6: 10 with 6, whatever its lengths are
+  pub crate-summary :
+      (crateRule Statistics 40 40 ≡ Unfit (OtherType 6)) × (crateRule Statistics 4 60 ≡ Unfit (OtherType 6))
   -- the crate's L comes from the length field, and left is all of the view
   pub of-a-view :
       (fitness Standard Clock (rows (0x04000003 ∷ 0 ∷ 0 ∷ 0 ∷ [])) ≡ Unfit (BadBlockLength 12 16))
@@ -145,6 +160,7 @@ pub record LostRuns : Type 0 where
       × (wordRule (Spans Times) 16 (loss-with (0x40004001 ∷ [])) ≡ Fine)
       × (wordRule Clock 16 (loss-with (0x40004001 ∷ [])) ≡ Fine)
       × (wordRule Echoes 16 (loss-with (0x40004001 ∷ [])) ≡ Fine)
+      × (wordRule Statistics 16 (loss-with (0x40004001 ∷ [])) ≡ Fine)
   -- the first word, one in the middle, the last, the only one that is not 0
   pub refusal :
       (fitness Standard (Spans (Chunks Loss)) (loss-with (0x40004001 ∷ [])) ≡ Unfit (BadBlockLength 12 16))

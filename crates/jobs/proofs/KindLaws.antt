@@ -1,5 +1,5 @@
 -- The kind of block that a record asks for. Assumes nothing.
---     kindOf-none            no kind is over 5
+--     kindOf-none            no kind is over 6
 --     kind-is, kind-spans    a record's kind, as it was told apart
 use Prim.Native.Nat.{ℕ, _<_}
 use mathlib.Core.Path.{_≡_}
@@ -12,8 +12,8 @@ use Rattle.def_wire.specs.declared.Kind.the-variants.{Spans}
 use Rattle.def_wire.specs.declared.KindOr.the-variants.{AKind, NoKind}
 use Rattle.def_wire.specs.Block.{rleOf, rangedOf, kindOf}
 
--- no kind over 5
-pub kindOf-none : (t : ℕ) → 5 < t → kindOf t ≡ NoKind
+-- no kind over 6
+pub kindOf-none : (t : ℕ) → 6 < t → kindOf t ≡ NoKind
 unfolding kindOf rangedOf rleOf
 kindOf-none t h =
     rw (
@@ -22,6 +22,7 @@ kindOf-none t h =
       ne-eqb t 3 (λ e. omega arith),
       ne-eqb t 4 (λ e. omega arith),
       ne-eqb t 5 (λ e. omega arith),
+      ne-eqb t 6 (λ e. omega arith),
     )
 
 -- the kind of a record, as it was told apart

@@ -8,7 +8,7 @@ use lib.ListN.{length}
 use Rattle.laws.proofs.Tests.{and-false-r}
 use Rattle.def_wire.specs.declared.Rle.{Rle}
 use Rattle.def_wire.specs.declared.Ranged.the-variants.{Chunks, Times}
-use Rattle.def_wire.specs.declared.Kind.the-variants.{Spans, Clock, Echoes}
+use Rattle.def_wire.specs.declared.Kind.the-variants.{Spans, Clock, Echoes, Statistics}
 use Rattle.def_wire.specs.declared.KindOr.the-variants.{AKind, NoKind}
 use Rattle.def_wire.specs.Block.{kindOf}
 use Rattle.def_standard.specs.Range.{rangeOf}
@@ -26,6 +26,10 @@ module _ (j : Job) (behind : ℕ) where
   pub misled-clock : kindOf (j .kind) ≡ AKind Clock → false ≡ misledBy j behind
   unfolding misledBy
   misled-clock e = rw e (sym (and-false-r (isBlockJob j)))
+
+  pub misled-sums : kindOf (j .kind) ≡ AKind Statistics → false ≡ misledBy j behind
+  unfolding misledBy
+  misled-sums e = rw e (sym (and-false-r (isBlockJob j)))
 
   pub misled-none : kindOf (j .kind) ≡ NoKind → false ≡ misledBy j behind
   unfolding misledBy

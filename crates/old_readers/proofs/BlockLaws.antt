@@ -8,7 +8,7 @@ use lib.ListN.{length, length-append}
 use Rattle.laws.proofs.Tests.{true≢false}
 use Rattle.def_wire.specs.declared.Reading.the-variants.{Standard, Crate}
 use Rattle.def_wire.specs.declared.Ranged.the-variants.{Chunks, Times}
-use Rattle.def_wire.specs.declared.Kind.the-variants.{Spans, Clock, Echoes}
+use Rattle.def_wire.specs.declared.Kind.the-variants.{Spans, Clock, Echoes, Statistics}
 use Rattle.def_wire.specs.declared.KindOr.{KindOr}
 use Rattle.def_wire.specs.declared.KindOr.the-variants.{AKind, NoKind}
 use Rattle.def_wire.specs.Block.{kindOf}
@@ -21,7 +21,7 @@ use Rattle.misled.specs.Misled.{misledAs, misledBy}
 use Rattle.written.proofs.RecordsLaws.{Body}
 use Rattle.old_readers.proofs.ChunksLaws.{chunks-mislead}
 use Rattle.old_readers.proofs.TimesLaws.{times-mislead}
-use Rattle.old_readers.proofs.OtherLaws.{clock-misleads-never, echoes-mislead}
+use Rattle.old_readers.proofs.OtherLaws.{clock-misleads-never, echoes-mislead, sums-mislead-never}
 
 by-kind : (k : KindOr) (j : Job) → isBody k j ≡ true → Body j → (rest : List ℕ)
     → length (bytesAs k Careful j ++ rest) ≤ maxBytes
@@ -33,6 +33,7 @@ by-kind (AKind (Spans (Chunks a))) j g b rest h =
 by-kind (AKind (Spans Times)) j g b rest h = times-mislead j g b rest h
 by-kind (AKind Clock) j g b rest h = clock-misleads-never j b rest
 by-kind (AKind Echoes) j g b rest h = echoes-mislead j g b rest h
+by-kind (AKind Statistics) j g b rest h = sums-mislead-never j rest _
 by-kind NoKind j g b rest h = true≢false g
 
 pub block-misleads : (j : Job) → isBlockJob j ≡ true → Body j → (rest : List ℕ)

@@ -1,6 +1,8 @@
--- What 15 comes to for blocks of types 4 and 5. Assumes nothing.
+-- What 15 comes to for blocks of types 4, 5 and 6. Assumes nothing.
 --     clock-misleads-never     a block of type 4 shows its time, whatever follows
 --     echoes-mislead           a block of type 5 misleads where `misledEchoes` says so
+--     sums-bare                of a block of type 6 the crate shows type and length only, whatever follows
+--     sums-mislead-never       which misleads nobody
 use Prim.Native.Nat.{ℕ, zero, suc, _+_, _*_, _/_, _%_, _^_, _≤_, _<_}
 use mathlib.Core.Path.{_≡_, refl, sym, ap, _∙_}
 use mathlib.Core.Bool.{true, false, not}
@@ -10,9 +12,9 @@ use lib.ListN.{length, length-append}
 use lib.Dec.{eqb, leb, ltb}
 use borrow.Author.Tests.{le-leb, lt-ltb, le-ltb, eqb-true, leb-true, leb-false}
 use Rattle.laws.proofs.Tests.{either}
-use Rattle.def_refusals.specs.Answers.{shown}
+use Rattle.def_refusals.specs.Answers.{Or, shown}
 use Rattle.def_wire.specs.declared.Reading.the-variants.{Standard, Crate}
-use Rattle.def_wire.specs.declared.Kind.the-variants.{Clock, Echoes}
+use Rattle.def_wire.specs.declared.Kind.the-variants.{Clock, Echoes, Statistics}
 use Rattle.def_wire.specs.declared.KindOr.the-variants.{AKind}
 use Rattle.def_wire.specs.Bytes.{words32, four, eight}
 use Rattle.def_wire.specs.Block.{clockType, blockLength, rleOf, rangedOf, kindOf, crateRule, fitness, checkOf, timeOf}
@@ -20,7 +22,7 @@ use Rattle.def_standard.specs.Standard.{echoesOf}
 use Rattle.def_questions.specs.Questions.{entriesShown}
 use Rattle.def_jobs.specs.declared.Layout.the-variants.{Careful}
 use Rattle.def_jobs.specs.Jobs.{Job, low32, le64}
-use Rattle.def_jobs.specs.Shown.{clocked, echoed, recordOf, echoRow, numbersRow, sameRow}
+use Rattle.def_jobs.specs.Shown.{Record, clocked, echoed, bare, recordOf, echoRow, numbersRow, sameRow}
 use Rattle.def_jobs.specs.Layout.{head, bytesAs}
 use Rattle.def_jobs.specs.Writing.{maxBytes, differs}
 use Rattle.utils.proofs.BytesLaws.{be64-eight, length-words32}
@@ -141,3 +143,14 @@ echoes-mislead j good body rest small =
     rw (t, crate-takes j good body rest small t, laid-as (AKind Echoes) Careful j good body .shows)
     (ap not (same-entries own (words32 rest) m) ∙ three-words rest))
     (λ f. rw f (crate-refuses j good body rest small f))
+
+-- ---- type 6
+
+pub sums-bare : (j : Job) (rest : List ℕ)
+    → recordOf Crate (bytesAs (AKind Statistics) Careful j ++ rest) ≡ shown bare
+unfolding recordOf kindOf rangedOf rleOf
+sums-bare j rest = refl
+
+pub sums-mislead-never : (j : Job) (rest : List ℕ) (standard : Or Record)
+    → differs (recordOf Crate (bytesAs (AKind Statistics) Careful j ++ rest)) standard ≡ false
+sums-mislead-never j rest standard = rw (sums-bare j rest)

@@ -16,19 +16,21 @@ use def_wire::Sums;
 fn count_if(set: bool, n: u32) -> CountOr
     ensures { λ r. ⌜ r ≡ countIf set n ⌝ }
 {
+    let absent = CountOr::Uncounted;
     if set {
         return CountOr::Counted(n);
     }
-    CountOr::Uncounted
+    absent
 }
 
 fn jitter_if(set: bool, x: Spread) -> JitterOr
     ensures { λ r. ⌜ r ≡ jitterIf set x ⌝ }
 {
+    let absent = JitterOr::NoJitter;
     if set {
         return JitterOr::Jitter(x);
     }
-    JitterOr::NoJitter
+    absent
 }
 
 // By ToH.
@@ -41,10 +43,10 @@ fn hops_by(toh: u8, x: ByteSpread) -> HopsOr
     if toh == 1 {
         return HopsOr::Ttl(x);
     }
-    if toh == 2 {
-        return HopsOr::HopLimit(x);
+    if toh != 2 {
+        return HopsOr::Unknown;
     }
-    HopsOr::Unknown
+    HopsOr::HopLimit(x)
 }
 
 // Whether a flag is set.

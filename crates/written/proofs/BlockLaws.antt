@@ -1,14 +1,14 @@
 -- One block read back in the standard reading: it announces its own length, and shows what was laid in it. Assumes
 -- nothing.
 --     Laid           a block v that shows r
---     rle-laid, times-laid, clock-laid, echoes-laid     the blocks of each kind
+--     rle-laid, times-laid, clock-laid, echoes-laid, sums-laid     the blocks of each kind
 use Prim.Native.Nat.{ℕ, _+_, _-_, _/_, _%_, _≤_, _<_, _^_}
 use mathlib.Core.Path.{_≡_, refl, ap}
 use mathlib.Core.Bool.{false}
 use mathlib.Core.List.{List, [], _++_}
 use native.Mathlib.Nat.{mod-eq-of-lt}
 use native.Mathlib.Omega.{arith}
-use lib.ListN.{length}
+use lib.ListN.{length, drop}
 use borrow.Author.Tests.{eq-eqb, le-leb}
 use Rattle.def_refusals.specs.declared.Checked.the-variants.{Fine}
 use Rattle.def_refusals.specs.Answers.{shown}
@@ -21,15 +21,17 @@ use Rattle.def_wire.specs.declared.Kind.{Kind}
 use Rattle.def_wire.specs.declared.Kind.the-variants.{Spans, Echoes}
 use Rattle.def_wire.specs.declared.KindOr.the-variants.{AKind}
 use Rattle.def_wire.specs.declared.Fields.{Fields}
+use Rattle.def_wire.specs.declared.Sums.{Sums}
 use Rattle.def_wire.specs.Bytes.{words16, words32, two, four, eight}
-use Rattle.def_wire.specs.Block.{typeOf, fieldsAt, kindType, rleType, receiptType, clockType, echoType}
+use Rattle.def_wire.specs.Block.{typeOf, fieldsAt, kindType, rleType, receiptType, clockType, echoType, summaryType}
 use Rattle.def_wire.specs.Block.{rleOf, rangedOf, kindOf, standardRule, lostRun, has, wordRule, fitness, checkOf}
 use Rattle.def_wire.specs.Block.{fieldsOf, timeOf}
+use Rattle.def_wire.specs.Summary.{sumsAt, summaryFrom, summaryOf}
 use Rattle.def_standard.specs.Range.{rangeOf}
 use Rattle.def_standard.specs.Standard.{numbersOf, pairsOf, echoesOf}
 use Rattle.def_questions.specs.Questions.{numbersShown, pairsShown, entriesShown}
-use Rattle.def_jobs.specs.Shown.{Record, reported, received, clocked, echoed, recordOf}
-use Rattle.def_jobs.specs.Layout.{head, withFields}
+use Rattle.def_jobs.specs.Shown.{Record, reported, received, clocked, echoed, summed, recordOf}
+use Rattle.def_jobs.specs.Layout.{head, withFields, sumsBytes}
 use Rattle.def_jobs.specs.Writing.{maxBytes}
 use Rattle.utils.proofs.BytesLaws.{be16-two, be32-four, be64-eight}
 use Rattle.utils.proofs.ClearLaws.{fit-fine, clear-fine}
@@ -139,3 +141,49 @@ echoes-laid n rest e m =
       announces = announces-head echoType 0 n rest e (omega arith);
       shows = rw (check-fine Echoes v refl (rw (eq-eqb _ _ k)) refl);
     }
+
+-- ---- a summary's numbers, all of them
+
+-- numbers that their bytes can hold
+pub record SumsFit (n : Sums) : Type 0 where
+  pub ssrc : n .ssrc < 4294967296
+  pub begin : n .begin < 65536
+  pub end : n .end < 65536
+  pub lost : n .lost < 4294967296
+  pub duplicates : n .duplicates < 4294967296
+  pub least : n .jitter .least < 4294967296
+  pub most : n .jitter .most < 4294967296
+  pub mean : n .jitter .mean < 4294967296
+  pub deviation : n .jitter .deviation < 4294967296
+
+module _ (flags : ℕ) (n : Sums) where
+  abbrev sumsBlock : List ℕ
+  sumsBlock = head summaryType flags 36 ++ sumsBytes n
+
+  sums-back : SumsFit n → sumsAt sumsBlock ≡ n
+  sums-back h =
+      λ i.
+      record {
+        ssrc = be32-four (n .ssrc) (drop 8 sumsBlock) (h .ssrc) i;
+        begin = be16-two (n .begin) (drop 10 sumsBlock) (h .begin) i;
+        end = be16-two (n .end) (drop 12 sumsBlock) (h .end) i;
+        lost = be32-four (n .lost) (drop 16 sumsBlock) (h .lost) i;
+        duplicates = be32-four (n .duplicates) (drop 20 sumsBlock) (h .duplicates) i;
+        jitter = record {
+          least = be32-four (n .jitter .least) (drop 24 sumsBlock) (h .least) i;
+          most = be32-four (n .jitter .most) (drop 28 sumsBlock) (h .most) i;
+          mean = be32-four (n .jitter .mean) (drop 32 sumsBlock) (h .mean) i;
+          deviation = be32-four (n .jitter .deviation) (drop 36 sumsBlock) (h .deviation) i;
+        };
+        hops = n .hops;
+      }
+
+  -- shown by the flags that were written
+  pub sums-laid : SumsFit n → Laid sumsBlock (summed (summaryFrom flags n))
+  unfolding recordOf kindOf rangedOf rleOf summaryOf checkOf fitness standardRule
+  sums-laid h =
+      record {
+        whole = refl;
+        announces = λ l. refl;
+        shows = ap (λ (x : Sums). shown (summed (summaryFrom flags x))) (sums-back h);
+      }

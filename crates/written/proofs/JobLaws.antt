@@ -10,7 +10,7 @@ use borrow.Author.Tests.{leb-true, eqb-true}
 use Rattle.laws.proofs.Tests.{and-true, true≢false}
 use Rattle.def_wire.specs.declared.Rle.{Rle}
 use Rattle.def_wire.specs.declared.Ranged.the-variants.{Chunks, Times}
-use Rattle.def_wire.specs.declared.Kind.the-variants.{Spans, Clock, Echoes}
+use Rattle.def_wire.specs.declared.Kind.the-variants.{Spans, Clock, Echoes, Statistics}
 use Rattle.def_wire.specs.declared.KindOr.{KindOr}
 use Rattle.def_wire.specs.declared.KindOr.the-variants.{AKind, NoKind}
 use Rattle.def_wire.specs.Bytes.{four}
@@ -18,7 +18,7 @@ use Rattle.def_wire.specs.Block.{lostRun, has, kindOf}
 use Rattle.def_standard.specs.Range.{rangeOf}
 use Rattle.def_jobs.specs.declared.Layout.{Layout}
 use Rattle.def_jobs.specs.Jobs.{Job, le16, le32, le64, low32, jobFields, jobWords, jobTimes, hasFields, isBody}
-use Rattle.def_jobs.specs.Jobs.{isBlockJob, askedAs, askedOf}
+use Rattle.def_jobs.specs.Jobs.{jobFlags, jobSums, isBlockJob, askedAs, askedOf}
 use Rattle.def_jobs.specs.Layout.{bytesOf, wordsBytes, bytesAs, blockBytes}
 use Rattle.utils.proofs.BytesLaws.{Bytes}
 use Rattle.little_endian.proofs.LowLaws.{length-low32, length-bytesOf}
@@ -26,7 +26,8 @@ use Rattle.written.proofs.Lists.{under-drop}
 use Rattle.written.proofs.RecordsLaws.{Body}
 use Rattle.written.proofs.WordsLaws.{under-low16, under-low32, words32-bytes}
 use Rattle.written.proofs.WordsLaws.{clear-behind, numbers-behind, words-even}
-use Rattle.written.proofs.BlockLaws.{Fits, Laid, rle-laid, times-laid, clock-laid, echoes-laid}
+use Rattle.written.proofs.BlockLaws.{Fits, SumsFit, Laid, rle-laid, times-laid, clock-laid, echoes-laid}
+use Rattle.written.proofs.BlockLaws.{sums-laid}
 
 -- ---- little-endian numbers of bytes
 
@@ -49,6 +50,20 @@ job-fits j n g h =
       begin = le16-lt (j .body) h 4;
       end = le16-lt (j .body) h 6;
       thinning = leb-true _ _ (q .0);
+    }
+
+sums-fit : (j : Job) → Body j → SumsFit (jobSums j)
+sums-fit j h =
+    record {
+      ssrc = le32-lt (j .body) h 2;
+      begin = le16-lt (j .body) h 6;
+      end = le16-lt (j .body) h 8;
+      lost = le32-lt (j .body) h 10;
+      duplicates = le32-lt (j .body) h 14;
+      least = le32-lt (j .body) h 18;
+      most = le32-lt (j .body) h 22;
+      mean = le32-lt (j .body) h 26;
+      deviation = le32-lt (j .body) h 30;
     }
 
 -- a good record's words: fields before them, and no run of ones of no length among them
@@ -84,6 +99,7 @@ laid-as (AKind Echoes) layout j g h =
     let e : length (j .body) ≡ length (bytesOf four (low32 (j .body))) = omega arith in
     rw (words32-bytes (low32 (j .body)) (under-low32 (j .body) h)) at
     (echoes-laid (length (j .body)) (bytesOf four (low32 (j .body))) e (omega arith))
+laid-as (AKind Statistics) layout j g h = sums-laid (jobFlags j) (jobSums j) (sums-fit j h)
 laid-as NoKind layout j g h = true≢false g
 
 pub block-laid : (layout : Layout) (j : Job) → isBlockJob j ≡ true → Body j → Laid (blockBytes layout j) (askedOf j)

@@ -264,7 +264,7 @@ pub extern "C" fn xr_fields_view(r: u8, t: u8, view: &[u8]) -> FlatFields
     flat::fields(by_number::fields_view(flat::reading(r), t, view))
 }
 
-// What a block of type 6 shows: 10, 7; of the crate's reading, which has no such question, always 10.
+// What a block of type 6 shows; of the crate's reading, which has no such question, always 10: 10, 7.
 #[no_mangle]
 pub extern "C" fn xr_summary_view(r: u8, view: &[u8]) -> FlatSummary
     ensures { λ a. ⌜ a ≡ flatSummary (summaryOf (readingOf r) (now (view .entry))) ⌝ }

@@ -5,7 +5,7 @@ use Rattle.def_jobs.specs.Jobs.{jobWords}
 use Rattle.jobs.specs.Places.{jobOf}
 use Rattle.jobs.proofs.KindLaws.{kind-is, kind-spans}
 use Rattle.block_size.proofs.LayoutLaws.{length-block-words, length-block-times, length-block-clock}
-use Rattle.block_size.proofs.LayoutLaws.{length-block-echoes, length-block-none}
+use Rattle.block_size.proofs.LayoutLaws.{length-block-echoes, length-block-sums, length-block-none}
 use Rattle.block_size.proofs.ZerosLaws.{zeros-most}
 use borrow.Author.Needs.{needs}
 use Rattle.block_size.proofs.block_size.Statement.{statement}
@@ -63,10 +63,17 @@ returns-4 c = let k = c .before .before .before in
     (kind-is (f .kind-of .ensures) (k .k .given .1) (c .enum-told4 .given .1)))
 
 returns-5 : tie.Need-returns-5
-returns-5 c = let f = c .before .before in
+returns-5 c = let k = c .before .before .before in
+    let f = k .before .before in
+    let a = f .before .before .args in
+    sym (length-block-sums (a .layout) (jobOf (a .kind) (a .body .now))
+    (kind-is (f .kind-of .ensures) (k .k .given .1) (c .enum-told5 .given .1)))
+
+returns-6 : tie.Need-returns-6
+returns-6 c = let f = c .before .before in
     let a = f .before .before .args in
     sym (length-block-none (a .layout) (jobOf (a .kind) (a .body .now))
-    (sym (f .kind-of .ensures) ∙ c .enum-told5 .given .1))
+    (sym (f .kind-of .ensures) ∙ c .enum-told6 .given .1))
 
 pub block-size-spec : {M : Type 1} → statement M
 block-size-spec =
@@ -74,4 +81,5 @@ block-size-spec =
     (tie.spec (λ c κs. search needs) (λ c. search needs) (λ c. search needs) (λ c. search needs) (λ c κs. search needs)
     (λ c. search needs) (λ c. search needs) (λ c κs. search needs) mul-result-2 add-result-2 (λ c. search needs)
     (λ c κs. search needs) (λ c. search needs) (λ c. search needs) (λ c. search needs) (λ c. search needs)
-    (λ c. search needs) (λ c. search needs) (λ c. search needs) returns returns-2 returns-3 returns-4 returns-5)
+    (λ c. search needs) (λ c. search needs) (λ c. search needs) (λ c. search needs) returns returns-2 returns-3 returns-4 returns-5
+    returns-6)

@@ -10,8 +10,10 @@ use Rattle.def_wire.specs.Block.{kindOf}
 use Rattle.def_jobs.specs.Jobs.{Job, jobWords}
 use Rattle.jobs.specs.Places.{jobOf}
 use Rattle.jobs.proofs.KindLaws.{kind-is, kind-spans}
-use Rattle.block_size.proofs.JudgeLaws.{block-words, block-times, block-clock, block-echoes, block-none}
-use Rattle.block_size.proofs.JudgedLaws.{judged-words, judged-times, judged-clock, judged-echoes, judged-bad}
+use Rattle.block_size.proofs.JudgeLaws.{block-words, block-times, block-clock, block-echoes, block-sums}
+use Rattle.block_size.proofs.JudgeLaws.{block-none}
+use Rattle.block_size.proofs.JudgedLaws.{judged-words, judged-times, judged-clock, judged-echoes, judged-sums}
+use Rattle.block_size.proofs.JudgedLaws.{judged-bad}
 use Rattle.block_size.proofs.ZerosLaws.{zeros-most}
 use borrow.Author.Needs.{needs}
 use Rattle.block_size.proofs.judged_size.Statement.{statement}
@@ -98,14 +100,30 @@ returns-8 c = let t = c .before in
     (block-echoes (job f) (told k _ (t .enum-told4 .given .1)) ∙ ne-eqb _ _ (c .if4 .left))
 
 returns-9 : tie.Need-returns-9
-returns-9 c = let f = c .before .before in
+returns-9 c = let h = c .before in
+    let t = h .before in
+    let k = t .before .before .before in
+    let f = k .before .before in
+    judged-sums (f .before .before .args .layout) (job f) (told k _ (t .enum-told5 .given .1))
+    (sym (h .has-sums .ensures) ∙ c .if5 .taken)
+
+returns-10 : tie.Need-returns-10
+returns-10 c = let h = c .before in
+    let t = h .before in
+    let k = t .before .before .before in
+    let f = k .before .before in
     judged-bad (f .before .before .args .layout) (job f)
-    (block-none (job f) (sym (f .kind-of .ensures) ∙ c .enum-told5 .given .1))
+    (block-sums (job f) (told k _ (t .enum-told5 .given .1)) ∙ sym (h .has-sums .ensures) ∙ c .if5 .left)
+
+returns-11 : tie.Need-returns-11
+returns-11 c = let f = c .before .before in
+    judged-bad (f .before .before .args .layout) (job f)
+    (block-none (job f) (sym (f .kind-of .ensures) ∙ c .enum-told6 .given .1))
 
 pub judged-size-spec : {M : Type 1} → statement M
 judged-size-spec =
     tie.close
     (tie.spec (λ c κs. search needs) (λ c. search needs) (λ c. search needs) (λ c. search needs) (λ c κs. search needs)
     (λ c. search needs) (λ c κs. search needs) mul-result add-result-2 (λ c. search needs) (λ c κs. search needs)
-    (λ c. search needs) (λ c. search needs) (λ c. search needs) (λ c. search needs) (λ c. search needs) returns
-    returns-2 returns-3 returns-4 returns-5 returns-6 returns-7 returns-8 returns-9)
+    (λ c. search needs) (λ c. search needs) (λ c. search needs) (λ c. search needs) (λ c. search needs)
+    (λ c κs. search needs) (λ c. search needs) returns returns-2 returns-3 returns-4 returns-5 returns-6 returns-7 returns-8 returns-9 returns-10 returns-11)

@@ -3,7 +3,7 @@ use mathlib.Core.Path.{sym, ap, _∙_}
 use Rattle.print.proofs.AddedLaws.{reads}
 use Rattle.def_wire.specs.declared.Kind.{Kind}
 use Rattle.def_dump.specs.Dump.{contentsOf}
-use Rattle.dump.proofs.DumpLaws.{clock-contents, echo-contents}
+use Rattle.dump.proofs.DumpLaws.{clock-contents, echo-contents, statistics-contents}
 use borrow.Author.Needs.{needs}
 use Rattle.dump.proofs.contents.Statement.{statement}
 use Rattle.dump.proofs.contents.Tie as tie
@@ -25,7 +25,13 @@ returns-3 c =
     reads (echo-contents _ _ _ (c .before .before .before .before .enum-told2 .given .1))
     (c .before .before .entries-or .ensures)
 
+returns-4 : tie.Need-returns-4
+returns-4 c =
+    reads (statistics-contents _ _ _ (c .before .before .before .before .enum-told3 .given .1))
+    (c .before .before .summary-or .ensures)
+
 pub contents-spec : {M : Type 1} → statement M
 contents-spec = tie.close
     (tie.spec (λ c. search needs) (λ c κs. search needs) (λ c. search needs) (λ c κs. search needs) (λ c. search needs)
-    (λ c κs. search needs) (λ c. search needs) returns (λ c. search needs) returns-2 (λ c. search needs) returns-3)
+    (λ c κs. search needs) (λ c. search needs) (λ c κs. search needs) (λ c. search needs) returns (λ c. search needs)
+    returns-2 (λ c. search needs) returns-3 (λ c. search needs) returns-4)

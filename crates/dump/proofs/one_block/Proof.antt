@@ -16,7 +16,7 @@ returns c =
     let h = t .before .before in
     reads
     (kind-shown _ _ _ _ _ _ _ (h .header-data .ensures) (t .block-type .ensures) (n .block-length .ensures .0)
-    (u .block-type2 .ensures) _ _ (d .kind .given .1) (o .kind-of .ensures))
+    (u .block-type2 .ensures) _ _ (d .kind .given .1) (o .kind-in .ensures))
     (and-then (l .block-line .ensures) (c .before .before .contents-or .ensures))
 
 returns-2 : tie.Need-returns-2
@@ -29,7 +29,7 @@ returns-2 c =
     let h = t .before .before in
     reads
     (kind-bare _ _ _ _ _ _ _ (h .header-data .ensures) (t .block-type .ensures) (n .block-length .ensures .0)
-    (u .block-type2 .ensures) _ (c .enum-told .given .1) (o .kind-of .ensures))
+    (u .block-type2 .ensures) _ (c .enum-told .given .1) (o .kind-in .ensures))
     (l .block-line .ensures)
 
 pub one-block-spec : {M : Type 1} → statement M

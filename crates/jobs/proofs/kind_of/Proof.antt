@@ -1,4 +1,4 @@
--- `jobs::kind_of` meets its contract: no kind is over 5.
+-- `jobs::kind_of` meets its contract: no kind is over 6.
 use mathlib.Core.Path.{sym}
 use native.Mathlib.Omega.{arith}
 use Rattle.jobs.proofs.KindLaws.{kindOf-none}

@@ -14,7 +14,7 @@ use Rattle.jobs.specs.Places.{jobOf}
 use Rattle.jobs.proofs.KindLaws.{kind-is, kind-spans}
 use Rattle.block_size.specs.Judged.{Fielded}
 use Rattle.misled.proofs.MisledLaws.{fielded-words, fielded-times, misled-bad, misled-words, misled-times}
-use Rattle.misled.proofs.MisledLaws.{misled-clock, misled-echoes, misled-none}
+use Rattle.misled.proofs.MisledLaws.{misled-clock, misled-echoes, misled-sums, misled-none}
 use Rattle.misled.proofs.misled.Statement.{statement}
 use Rattle.misled.proofs.misled.Tie as tie
 
@@ -96,8 +96,13 @@ returns-5 c = let t = c .before in
     ∙ misled-echoes (job f) (start f .args .behind) (good f) (told k _ (t .enum-told4 .given .1))
 
 returns-6 : tie.Need-returns-6
-returns-6 c = let f = c .before .before in
-    misled-none (job f) (start f .args .behind) (sym (f .kind-of .ensures) ∙ c .enum-told5 .given .1)
+returns-6 c = let k = c .before .before .before in
+    let f = k .before .before in
+    misled-sums (job f) (start f .args .behind) (told k _ (c .enum-told5 .given .1))
+
+returns-7 : tie.Need-returns-7
+returns-7 c = let f = c .before .before in
+    misled-none (job f) (start f .args .behind) (sym (f .kind-of .ensures) ∙ c .enum-told6 .given .1)
 
 pub misled-spec : {M : Type 1} → statement M
 misled-spec =
@@ -105,4 +110,5 @@ misled-spec =
     (tie.spec (λ c κs. search needs) returns (λ c κs. search needs) (λ c. search needs) (λ c. search needs)
     (λ c. search needs) fields-of-requires (λ c κs. search needs) goes-on-requires (λ c. search needs) sub-own
     fields-of-requires-2 (λ c. search needs) (λ c κs. search needs) (λ c. search needs) (λ c. search needs)
-    (λ c κs. search needs) (λ c. search needs) returns-2 returns-3 returns-4 returns-5 returns-6)
+    (λ c κs. search needs) (λ c. search needs) (λ c. search needs) returns-2 returns-3 returns-4 returns-5 returns-6
+    returns-7)

@@ -1,0 +1,2 @@
+-- Unique (no second answer).
+pub mod Unique
