@@ -2,7 +2,7 @@
 --     eventsFrom     the events from index i on
 --     stopOf         the index past the last one: of n, and as far as the lists go
 --     Inside         an index before it has its numbers in each list
-use Prim.Native.Nat.{ℕ, _+_, _*_, _-_, _/_, _≤_, _<_, min}
+use Prim.Native.Nat.{ℕ, _+_, _*_, _/_, _≤_, _<_, min}
 use mathlib.Core.Path.{_≡_, refl, ap, _∙_}
 use mathlib.Core.List.{List, [], _∷_, _++_}
 use native.Mathlib.Omega.{arith}

@@ -25,10 +25,14 @@ loop-holds c = let l3 = c .before in
     let e = rw (l3 .lesser3 .ensures, l2 .lesser2 .ensures, l2 .before .lesser .ensures) at (c .lesser4 .ensures) in
     (omega arith, e ∙ stop-is _ _ _ _ _, start)
 
+-- the function's start
+abbrev entry : tie.In-loop Inv-loop μ-loop → tie.Start Inv-loop μ-loop
+entry d = d .before .before .before .before .before .before .before .before .before .before .before
+
 -- where the loop stands, its index is inside
-within : (d : tie.In-loop Inv-loop μ-loop) → let a = d .before .before .before .before .before .before .before .before .before .before .before .args in
+within : (d : tie.In-loop Inv-loop μ-loop) → let a = entry d .args in
     Inside (a .count) (a .tags .now) (a .numbers .now) (a .values .now) (a .sums .now) (d .before .loop .i)
-within d = let a = d .before .before .before .before .before .before .before .before .before .before .before .args in
+within d = let a = entry d .args in
     inside (a .count) (a .tags .now) (a .numbers .now) (a .values .now) (a .sums .now) (d .before .loop .i)
     (omega (arith, d .loop-test .taken, d .before .loop .inv .1))
 
@@ -51,37 +55,43 @@ shared-slice-read-event-of-3 : tie.Need-shared-slice-read-event-of-3 Inv-loop μ
 shared-slice-read-event-of-3 c = let d = c .before .before .before .before in search (needs, within d .value)
 
 mul-event-of-4 : tie.Need-mul-event-of-4 Inv-loop μ-loop
-mul-event-of-4 c = let d = c .before .before .before .before in search (needs, within d .row, d .before .before .before .before .before .before .before .before .before .before .before .good)
+mul-event-of-4 c = let d = c .before .before .before .before in search (needs, within d .row, entry d .good)
 
 mul-event-of-5 : tie.Need-mul-event-of-5 Inv-loop μ-loop
-mul-event-of-5 c = let d = c .before .before .before .before in search (needs, within d .row, d .before .before .before .before .before .before .before .before .before .before .before .good)
+mul-event-of-5 c = let d = c .before .before .before .before in search (needs, within d .row, entry d .good)
 
 shared-slice-read-event-of-4 : tie.Need-shared-slice-read-event-of-4 Inv-loop μ-loop
-shared-slice-read-event-of-4 c = let d = c .before .before .before .before .before in search (needs, within d .row, d .before .before .before .before .before .before .before .before .before .before .before .good)
+shared-slice-read-event-of-4 c = let d = c .before .before .before .before .before in
+    search (needs, within d .row, entry d .good)
 
 mul-event-of-6 : tie.Need-mul-event-of-6 Inv-loop μ-loop
-mul-event-of-6 c = let d = c .before .before .before .before .before in search (needs, within d .row, d .before .before .before .before .before .before .before .before .before .before .before .good)
+mul-event-of-6 c = let d = c .before .before .before .before .before in search (needs, within d .row, entry d .good)
 
 add-event-of : tie.Need-add-event-of Inv-loop μ-loop
-add-event-of c = let d = c .before .before .before .before .before in search (needs, within d .row, d .before .before .before .before .before .before .before .before .before .before .before .good)
+add-event-of c = let d = c .before .before .before .before .before in search (needs, within d .row, entry d .good)
 
 mul-event-of-7 : tie.Need-mul-event-of-7 Inv-loop μ-loop
-mul-event-of-7 c = let d = c .before .before .before .before .before in search (needs, within d .row, d .before .before .before .before .before .before .before .before .before .before .before .good)
+mul-event-of-7 c = let d = c .before .before .before .before .before in search (needs, within d .row, entry d .good)
 
 shared-slice-read-event-of-5 : tie.Need-shared-slice-read-event-of-5 Inv-loop μ-loop
-shared-slice-read-event-of-5 c = let d = c .before .before .before .before .before .before in search (needs, within d .row, d .before .before .before .before .before .before .before .before .before .before .before .good)
+shared-slice-read-event-of-5 c = let d = c .before .before .before .before .before .before in
+    search (needs, within d .row, entry d .good)
 
 mul-event-of-8 : tie.Need-mul-event-of-8 Inv-loop μ-loop
-mul-event-of-8 c = let d = c .before .before .before .before .before .before in search (needs, within d .row, d .before .before .before .before .before .before .before .before .before .before .before .good)
+mul-event-of-8 c = let d = c .before .before .before .before .before .before in
+    search (needs, within d .row, entry d .good)
 
 add-event-of-2 : tie.Need-add-event-of-2 Inv-loop μ-loop
-add-event-of-2 c = let d = c .before .before .before .before .before .before in search (needs, within d .row, d .before .before .before .before .before .before .before .before .before .before .before .good)
+add-event-of-2 c = let d = c .before .before .before .before .before .before in
+    search (needs, within d .row, entry d .good)
 
 mul-event-of-9 : tie.Need-mul-event-of-9 Inv-loop μ-loop
-mul-event-of-9 c = let d = c .before .before .before .before .before .before in search (needs, within d .row, d .before .before .before .before .before .before .before .before .before .before .before .good)
+mul-event-of-9 c = let d = c .before .before .before .before .before .before in
+    search (needs, within d .row, entry d .good)
 
 shared-slice-read-event-of-6 : tie.Need-shared-slice-read-event-of-6 Inv-loop μ-loop
-shared-slice-read-event-of-6 c = let d = c .before .before .before .before .before .before .before in search (needs, within d .row, d .before .before .before .before .before .before .before .before .before .before .before .good)
+shared-slice-read-event-of-6 c = let d = c .before .before .before .before .before .before .before in
+    search (needs, within d .row, entry d .good)
 
 loop-less : tie.Need-loop-less Inv-loop μ-loop
 loop-less c = omega (arith, c .before .before .before .before .before .before .before .before .before .before .before .loop-test .taken)
@@ -92,7 +102,7 @@ loop-again c =
     let q = p .before in
     let d = q .before .before .before .before .before .before .before .before in
     let e = d .before .loop .inv in
-    let a = d .before .before .before .before .before .before .before .before .before .before .before .args in (
+    let a = entry d .args in (
       omega arith,
       e .1,
       next
