@@ -18,16 +18,16 @@ use Rattle.def_refusals.specs.declared.Refusal.the-variants.{Padded, BlockTooLo
 use Rattle.def_refusals.specs.declared.Checked.{Checked}
 use Rattle.def_refusals.specs.declared.Checked.the-variants.{Fine, Unfit}
 use Rattle.def_refusals.specs.Answers.{thenCheck}
-use Rattle.def_wire.specs.declared.Kind.the-variants.{Spans, Clock, Echoes}
+use Rattle.def_wire.specs.declared.Kind.the-variants.{Spans, Clock, Echoes, Statistics}
 use Rattle.def_wire.specs.declared.KindOr.{KindOr}
 use Rattle.def_wire.specs.declared.KindOr.the-variants.{AKind, NoKind}
 use Rattle.def_wire.specs.Packet.{announcedOf, isPadded, versionOf}
 use Rattle.def_wire.specs.Bytes.{byteAt, four}
 use Rattle.def_wire.specs.Block.{rule, nextFit, typeOf, blockLength, kindOf, standardRule, lostRun, has, clearRule}
-use Rattle.def_questions.specs.Questions.{least3}
 use Rattle.def_portions.specs.declared.Event.{Event}
 use Rattle.def_portions.specs.Events.{Course, course, courseOf, need, headFault, blockFault, ruleOf}
 use Rattle.def_portions.specs.Calls.{Call, callOf, pastFault, roomFault}
+use Rattle.def_portions.specs.Lists.{roomIn}
 use Rattle.states.specs.declared.Portions.{Portions}
 use Rattle.states.specs.declared.Followed.{Followed}
 use Rattle.states.specs.Steps.{start, head, block, word, low16, low32, faultOf, after, shows}
@@ -51,10 +51,10 @@ record Stands (st : Portions) (b : List ℕ) : Type 0 where
   state : st ≡ after start b
   within : pastFault b ≡ Fine
 
-module _ {st : Portions} {b x t u v t′ u′ v′ : List ℕ} {r : Followed} (s : Stands st b) (y : Bytes (b ++ x))
-    (f : Following st x t u v r t′ u′ v′) where
+module _ {st : Portions} {b x t u v w t′ u′ v′ w′ : List ℕ} {r : Followed} (s : Stands st b) (y : Bytes (b ++ x))
+    (f : Following st x t u v w r t′ u′ v′ w′) where
   abbrev call : Call
-  call = callOf b x (least3 t u v)
+  call = callOf b x (roomIn t u v w)
 
   answer : r
       ≡ record {
@@ -63,16 +63,16 @@ module _ {st : Portions} {b x t u v t′ u′ v′ : List ℕ} {r : Followed} (s
         events = length (call .events);
         refusal = call .refusal;
       }
-  answer = f .answer ∙ (rw (s .state) (call-answer b x (least3 t u v) y (s .within)))
+  answer = f .answer ∙ (rw (s .state) (call-answer b x (roomIn t u v w) y (s .within)))
 
   taken : b ++ take (r .taken) x ≡ call .taken
-  taken = rw (ap (λ (a : Followed). a .taken) answer) (sym (takes b x (least3 t u v) .0))
+  taken = rw (ap (λ (a : Followed). a .taken) answer) (sym (takes b x (roomIn t u v w) .0))
 
   stands : Stands (r .state) (b ++ take (r .taken) x)
   stands =
       record {
         state = ap (λ (a : Followed). a .state) answer ∙ ap (after start) (sym taken);
-        within = rw taken (call-keeps b x (least3 t u v) y (s .within));
+        within = rw taken (call-keeps b x (roomIn t u v w) y (s .within));
       }
 
 reached : {st : Portions} {b : List ℕ} → Reached st b → Stands st b
@@ -81,12 +81,12 @@ reached begun = record { state = refl; within = refl }
 reached (behind r y f) = stands (reached r) y f
 
 pub call-shows : CallShows
-call-shows st b x t u v t′ u′ v′ r w y f =
-    let s = reached w in
+call-shows st b x t u v w t′ u′ v′ w′ r g y f =
+    let s = reached g in
     let bound : Bounded st = rw (s .state) (bounded-after start b bounded-start) in (
       ap (λ (a : Followed). a .refusal) (answer s y f),
       taken s y f,
-      listed f bound ∙ (rw (s .state) (call-given b x (least3 t u v) y (s .within))),
+      listed f bound ∙ (rw (s .state) (call-given b x (roomIn t u v w) y (s .within))),
     )
 
 -- ---- calls one after the other
@@ -147,8 +147,8 @@ fed-shows : {st : Portions} {told last : Checked} {s : List ℕ} {es : List Even
     → told ≡ faultOf st → Shown st s es last
 unfolding shows after followedOf givenOf
 fed-shows ended b e = record { events = refl; refusal = e }
-fed-shows {st} (fed {x = x} {y = y} {t = t} {u = u} {v = v} {r = r} f i rest) b e =
-    let room = least3 t u v in
+fed-shows {st} (fed {x = x} {y = y} {t = t} {u = u} {v = v} {w = w} {r = r} f i rest) b e =
+    let room = roomIn t u v w in
     let k = took st x room (subst IsTaken (ap (λ (a : Followed). a .refusal) (f .answer)) i) in
     let state : r .state ≡ after st x = ap (λ (a : Followed). a .state) (f .answer) ∙ k .state in
     let told : r .refusal ≡ faultOf (r .state) =
@@ -189,6 +189,7 @@ module _ (n m : ℕ) where
   by-kind (AKind (Spans g)) l e = ruled (leb 12 l) 12 l e
   by-kind (AKind Clock) l e = ruled (eqb l 12) 12 l e
   by-kind (AKind Echoes) l e = ruled (eqb ((l - 4) % 12) 0) (nextFit l) l e
+  by-kind (AKind Statistics) l e = ruled (eqb l 40) 40 l e
   by-kind NoKind l e = unlike e
 
   head-not : (s : List ℕ) → headFault s ≡ Unfit (NoRoom n m) → ⊥
@@ -233,7 +234,7 @@ module _ (n m : ℕ) where
 
 pub one-byte : OneByte
 unfolding followedOf callFault
-one-byte st b t u v t′ u′ v′ r f l n m e =
+one-byte st b t u v w t′ u′ v′ w′ r f l n m e =
     let x = b ∷ [] in
-    room-says n m st x (least3 t u v) (faultOf st) (pastOf st x) (roomFault (shows st x) (least3 t u v)) refl refl refl
-    (omega (arith, most-shown st x)) (sym (ap (λ (a : Followed). a .refusal) (f .answer)) ∙ e)
+    room-says n m st x (roomIn t u v w) (faultOf st) (pastOf st x) (roomFault (shows st x) (roomIn t u v w)) refl refl refl
+    (omega (arith, most-shown st x, l)) (sym (ap (λ (a : Followed). a .refusal) (f .answer)) ∙ e)
