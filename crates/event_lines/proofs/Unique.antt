@@ -12,8 +12,8 @@ event-line-unique κs a r₁ r₂ s₁ s₂ p q = p .place ∙ sym (q .place)
 pub event-line-unique-buf : (κs : Lfts 1) → Fixes (event-line.Post κs) (λ r s. s .0 .now)
 event-line-unique-buf κs a r₁ r₂ s₁ s₂ p q = p .held ∙ sym (q .held)
 
-pub event-lines-unique : (κs : Lfts 4) → Fixes (event-lines.Post κs) (λ r s. r)
+pub event-lines-unique : (κs : Lfts 5) → Fixes (event-lines.Post κs) (λ r s. r)
 event-lines-unique κs a r₁ r₂ s₁ s₂ p q = p .place ∙ sym (q .place)
 
-pub event-lines-unique-buf : (κs : Lfts 4) → Fixes (event-lines.Post κs) (λ r s. s .0 .now)
+pub event-lines-unique-buf : (κs : Lfts 5) → Fixes (event-lines.Post κs) (λ r s. s .0 .now)
 event-lines-unique-buf κs a r₁ r₂ s₁ s₂ p q = p .held ∙ sym (q .held)

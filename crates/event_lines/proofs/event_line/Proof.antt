@@ -41,6 +41,10 @@ returns-7 c = let p = c .before .before in
 
 returns-8 : tie.Need-returns-8
 returns-8 c = let p = c .before .before in
+    reads (ap eventLine (sym (p .before .before .before .e8 .given .1))) (p .summary-line .ensures)
+
+returns-9 : tie.Need-returns-9
+returns-9 c = let p = c .before .before in
     reads (ap eventLine (sym (p .before .before .enum-told .given .1))) (p .end-line .ensures)
 
 pub event-line-spec : {M : Type 1} → statement M
@@ -50,6 +54,6 @@ event-line-spec = tie.close
     (λ c. search needs) (λ c κs. search needs) (λ c. search needs) (λ c κs. search needs) (λ c. search needs)
     (λ c. search needs) (λ c. search needs) (λ c. search needs) (λ c κs. search needs) (λ c. search needs)
     (λ c κs. search needs) (λ c. search needs) (λ c κs. search needs) (λ c. search needs) (λ c κs. search needs)
-    (λ c. search needs) returns (λ c. search needs) returns-2 (λ c. search needs) returns-3 (λ c. search needs)
+    (λ c. search needs) (λ c κs. search needs) (λ c. search needs) returns (λ c. search needs) returns-2 (λ c. search needs) returns-3 (λ c. search needs)
     returns-4 (λ c. search needs) returns-5 (λ c. search needs) returns-6 (λ c. search needs) returns-7
-    (λ c. search needs) returns-8)
+    (λ c. search needs) returns-8 (λ c. search needs) returns-9)
