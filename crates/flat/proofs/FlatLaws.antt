@@ -82,12 +82,13 @@ pub flat-stretched : {s : List ℕ} {k t : ℕ} {c : Cursor} {budget : ℕ} {out
     → StretchedBy s k t c budget out a out′ → f ≡ flatStretch a → FlatStretched s k t c budget out f out′
 flat-stretched l h = record { answer = h ∙ ap flatStretch (l .answer); filled = l .filled }
 
-pub flat-following : {st : Portions} {x t u v t′ u′ v′ : List ℕ} {r : Followed} {a : FlatFollowed}
-    → Following st x t u v r t′ u′ v′ → a ≡ flatFollowed r → FlatFollowing st x t u v a t′ u′ v′
+pub flat-following : {st : Portions} {x t u v w t′ u′ v′ w′ : List ℕ} {r : Followed} {a : FlatFollowed}
+    → Following st x t u v w r t′ u′ v′ w′ → a ≡ flatFollowed r → FlatFollowing st x t u v w a t′ u′ v′ w′
 flat-following f e =
     record {
       answer = e ∙ ap flatFollowed (f .answer);
       tags = f .tags;
       numbers = f .numbers;
       values = f .values;
+      sums = f .sums;
     }

@@ -13,6 +13,7 @@ use Rattle.flat.proofs.time.Reads as time
 use Rattle.flat.proofs.stretch.Reads as stretch
 use Rattle.flat.proofs.kind_number.Reads as kind-number
 use Rattle.flat.proofs.followed.Reads as followed
+use Rattle.flat.proofs.summary.Reads as summary
 
 pub reading-unique : (κs : Lfts 0) → Fixes (reading.Post κs) (λ r s. r)
 reading-unique κs a r₁ r₂ s₁ s₂ p q = p ∙ sym q
@@ -43,3 +44,6 @@ kind-number-unique κs a r₁ r₂ s₁ s₂ p q = p ∙ sym q
 
 pub followed-unique : (κs : Lfts 0) → Fixes (followed.Post κs) (λ r s. r)
 followed-unique κs a r₁ r₂ s₁ s₂ p q = p ∙ sym q
+
+pub summary-unique : (κs : Lfts 0) → Fixes (summary.Post κs) (λ r s. r)
+summary-unique κs a r₁ r₂ s₁ s₂ p q = p ∙ sym q

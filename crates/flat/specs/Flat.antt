@@ -170,17 +170,17 @@ summaryRow a flags n = record {
   ssrc = n .ssrc;
   lost = n .lost;
   duplicates = n .duplicates;
-  jitter_min = n .jitter .least;
-  jitter_max = n .jitter .most;
-  jitter_mean = n .jitter .mean;
-  jitter_deviation = n .jitter .deviation;
+  «jitter_min» = n .jitter .least;
+  «jitter_max» = n .jitter .most;
+  «jitter_mean» = n .jitter .mean;
+  «jitter_deviation» = n .jitter .deviation;
   begin = n .begin;
   end = n .end;
   flags = flags;
-  hops_min = n .hops .least;
-  hops_max = n .hops .most;
-  hops_mean = n .hops .mean;
-  hops_deviation = n .hops .deviation;
+  «hops_min» = n .hops .least;
+  «hops_max» = n .hops .most;
+  «hops_mean» = n .hops .mean;
+  «hops_deviation» = n .hops .deviation;
 }
 
 abbrev pub noSums : Sums
