@@ -13,17 +13,18 @@ use borrow.Author.Tests.{le-leb, lt-leb}
 use Rattle.def_wire.specs.declared.Ranged.{Ranged}
 use Rattle.def_wire.specs.declared.Ranged.the-variants.{Chunks, Times}
 use Rattle.def_wire.specs.declared.Rle.{Rle}
-use Rattle.def_wire.specs.declared.Kind.the-variants.{Spans, Clock, Echoes}
+use Rattle.def_wire.specs.declared.Kind.the-variants.{Spans, Clock, Echoes, Statistics}
 use Rattle.def_wire.specs.declared.KindOr.{KindOr}
 use Rattle.def_wire.specs.declared.KindOr.the-variants.{AKind, NoKind}
 use Rattle.def_wire.specs.declared.Fields.{Fields}
 use Rattle.def_wire.specs.Bytes.{words16, words32}
 use Rattle.def_wire.specs.Block.{typeOf, fieldsAt, timeAt, kindOf}
+use Rattle.def_wire.specs.Summary.{summaryAt}
 use Rattle.def_standard.specs.declared.Range.{Range}
 use Rattle.def_standard.specs.Range.{circle, rangeOf, numberOf}
 use Rattle.def_standard.specs.Standard.{numbersOf, standardWords, standardNumbers, standardPairs, entriesOf}
 use Rattle.def_portions.specs.declared.Event.{Event}
-use Rattle.def_portions.specs.declared.Event.the-variants.{Number, Pair, Entry, Time}
+use Rattle.def_portions.specs.declared.Event.the-variants.{Number, Pair, Entry, Time, Summed}
 use Rattle.def_portions.specs.Events.{listed, startOf, rangedOf, from, kindEvents, blockEvents}
 use Rattle.utils.proofs.BytesLaws.{length-words32}
 use Rattle.range.specs.Inside.{insideCount}
@@ -53,6 +54,11 @@ module _ (v : List ℕ) where
   pub events-echoes : kindOf (typeOf v) ≡ AKind Echoes → startOf v ∷ map Entry (entriesOf v) ≡ blockEvents v
   unfolding kindEvents
   events-echoes e = rw e
+
+  pub events-summary : kindOf (typeOf v) ≡ AKind Statistics
+      → startOf v ∷ from 40 v (Summed (summaryAt v) ∷ []) ≡ blockEvents v
+  unfolding kindEvents
+  events-summary e = rw e
 
   pub events-none : kindOf (typeOf v) ≡ NoKind → startOf v ∷ [] ≡ blockEvents v
   unfolding kindEvents

@@ -51,4 +51,6 @@ module _ (v : List ℕ) where
       (either (eqb (typeOf v) 3) (λ t. rw t)
       (λ f. rw f
       (either (eqb (typeOf v) 4) (λ t. rw t)
-      (λ f. rw f (either (eqb (typeOf v) 5) (λ t. rw t) (λ f. rw f))))))
+      (λ f. rw f
+      (either (eqb (typeOf v) 5) (λ t. rw t)
+      (λ f. rw f (either (eqb (typeOf v) 6) (λ t. rw t) (λ f. rw f))))))))

@@ -1,5 +1,5 @@
 -- FaultLaws (7 by the words), EventsLaws (a block's events, and how many there are), PartLaws (numbers filled into a
--- part of a list), AheadLaws (events on their way into three lists), PairsTurn and EntriesTurn (one turn of the storing
+-- part of a list), AheadLaws (events on their way into four lists), PairsTurn and EntriesTurn (one turn of the storing
 -- loops), PutLaws (a block's events from what its calls stored).
 pub mod FaultLaws
 pub mod AheadLaws

@@ -13,14 +13,17 @@ count-block-unique κs a r₁ r₂ s₁ s₂ p q = p ∙ sym q
 pub lost-fault-unique : (κs : Lfts 1) → Fixes (lost-fault.Post κs) (λ r s. r)
 lost-fault-unique κs a r₁ r₂ s₁ s₂ p q = p ∙ sym q
 
-pub put-block-unique : (κs : Lfts 4) → Fixes (put-block.Post κs) (λ r s. r)
+pub put-block-unique : (κs : Lfts 5) → Fixes (put-block.Post κs) (λ r s. r)
 put-block-unique κs a r₁ r₂ s₁ s₂ p q = p .past ∙ sym (q .past)
 
-pub put-block-unique-tags : (κs : Lfts 4) → Fixes (put-block.Post κs) (λ r s. s .1 .0 .now)
+pub put-block-unique-tags : (κs : Lfts 5) → Fixes (put-block.Post κs) (λ r s. s .1 .0 .now)
 put-block-unique-tags κs a r₁ r₂ s₁ s₂ p q = p .tags ∙ sym (q .tags)
 
-pub put-block-unique-numbers : (κs : Lfts 4) → Fixes (put-block.Post κs) (λ r s. s .1 .1 .0 .now)
+pub put-block-unique-numbers : (κs : Lfts 5) → Fixes (put-block.Post κs) (λ r s. s .1 .1 .0 .now)
 put-block-unique-numbers κs a r₁ r₂ s₁ s₂ p q = p .numbers ∙ sym (q .numbers)
 
-pub put-block-unique-values : (κs : Lfts 4) → Fixes (put-block.Post κs) (λ r s. s .1 .1 .1 .0 .now)
+pub put-block-unique-values : (κs : Lfts 5) → Fixes (put-block.Post κs) (λ r s. s .1 .1 .1 .0 .now)
 put-block-unique-values κs a r₁ r₂ s₁ s₂ p q = p .values ∙ sym (q .values)
+
+pub put-block-unique-sums : (κs : Lfts 5) → Fixes (put-block.Post κs) (λ r s. s .1 .1 .1 .1 .0 .now)
+put-block-unique-sums κs a r₁ r₂ s₁ s₂ p q = p .sums ∙ sym (q .sums)

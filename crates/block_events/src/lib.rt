@@ -168,8 +168,8 @@ fn put_range(
     requires { ⌜ n + length (from 12 (now v) (rangedOf (now v) ∷ listed g (now v))) ≤ roomIn (now tags)
         (now numbers) (now values) (now sums) ⌝ }
     ensures { λ r. ⌜ Laid (from 12 (now (v .entry)) (rangedOf (now (v .entry)) ∷ listed g (now (v .entry)))) n
-        (now (tags .entry)) (now (numbers .entry)) (now (values .entry)) (now (sums .entry)) (now (tags .exit)) (now (numbers .exit))
-        (now (values .exit)) (now (sums .exit)) r ⌝ }
+        (now (tags .entry)) (now (numbers .entry)) (now (values .entry)) (now (sums .entry)) (now (tags .exit))
+        (now (numbers .exit)) (now (values .exit)) (now (sums .exit)) r ⌝ }
 {
     if v.len() < 12 {
         return n;
@@ -214,7 +214,8 @@ pub fn put_block(
 ) -> usize
     requires { ⌜ n + length (blockEvents (now v)) ≤ roomIn (now tags) (now numbers) (now values) (now sums) ⌝ }
     ensures { λ r. ⌜ Laid (blockEvents (now (v .entry))) n (now (tags .entry)) (now (numbers .entry))
-        (now (values .entry)) (now (sums .entry)) (now (tags .exit)) (now (numbers .exit)) (now (values .exit)) (now (sums .exit)) r ⌝ }
+        (now (values .entry)) (now (sums .entry)) (now (tags .exit)) (now (numbers .exit)) (now (values .exit))
+        (now (sums .exit)) r ⌝ }
 {
     let t = type_of(v);
     match records::kind_of(t) {

@@ -2,7 +2,7 @@
 --     event-header, ..             the event is of the kind that its tag says
 --     event-back                   an event in range is the one that its own parts are
 --     events-back, laid-back       so are all events that were laid into lists
-use Prim.Native.Nat.{ℕ, zero, suc, _+_, _*_, _/_, _%_, _^_, _≤_, _<_}
+use Prim.Native.Nat.{ℕ, suc, _+_, _*_, _/_, _%_, _^_, _≤_, _<_}
 use mathlib.Core.Path.{_≡_, refl, sym, ap, ap₂, _∙_}
 use mathlib.Core.List.{List, [], _∷_, _++_}
 use native.Mathlib.Omega.{arith}

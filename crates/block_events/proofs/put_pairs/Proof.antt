@@ -2,13 +2,14 @@
 -- Assumes nothing.
 use native.Mathlib.Omega.{arith}
 use borrow.Author.Needs.{needs}
-use Rattle.block_events.proofs.PairsTurn.{Pairing, pairsAt, begun, time-there, turned, pairs-stored}
+use Rattle.packet_receipt_time.proofs.PairsTurn.{restAt}
+use Rattle.block_events.proofs.PairsTurn.{Pairing, begun, time-there, turned, pairs-stored}
 use Rattle.block_events.proofs.put_pairs.Statement.{statement}
 use Rattle.block_events.proofs.put_pairs.Tie as tie
 
 abbrev Inv-loop : tie.InvT-loop
 Inv-loop v first step count tags₀ numbers₀ values₀ n left₀ at₀ i₀ x₀ tags numbers values left at i x =
-    Pairing v step (pairsAt v step first count 12) n tags₀ numbers₀ values₀ tags numbers values left at i x
+    Pairing v step (restAt v step first count 12) n tags₀ numbers₀ values₀ tags numbers values left at i x
 
 abbrev μ-loop : tie.MeasureT-loop
 μ-loop v first step count tags₀ numbers₀ values₀ n left₀ at₀ i₀ x₀ tags numbers values left at i x = left

@@ -24,34 +24,33 @@ use Rattle.block_events.proofs.put_range.Tie as tie
 
 -- where the block was seen to be long enough, from where its start was stored; and the function's start
 abbrev long : tie.After-put → tie.Else1
-long p = p .before .before .before .before .before .before .before .before
+long p = p .before .before .before .before .before .before .before .before .before
 
 abbrev start : tie.After-put → tie.Start
-start p = long p .before .before .before .before .before
+start p = long p .before .before .before .before .before .before
 
 abbrev v-of : tie.After-put → List ℕ
 v-of p = start p .args .v .now
 
 -- where the start was stored, from the kinds
-abbrev stored : tie.After-slice-known6 → tie.After-put
-stored s = s .before .before .before .before .before .before
+abbrev stored : tie.After-slice-known8 → tie.After-put
+stored s = s .before .before .before .before .before .before .before .before
 
 returns : tie.Need-returns
-returns c = let a = c .before .before .before .before .before .args in ranged-short (a .v .now) (a .g) (c .if1 .taken)
+returns c = let a = c .before .before .before .before .before .before .args in ranged-short (a .v .now) (a .g) (c .if1 .taken)
 
 put-requires : tie.Need-put-requires
 put-requires c κs =
-    let e = c .before .before .before .before .before .before .before in
-    let s = e .before .before .before .before .before in
-    let k = ranged-length (s .args .v .now) (s .args .g) (e .if1 .left) in
-    (omega (arith, k, s .pre), omega (arith, k, s .pre), omega (arith, k, s .pre))
+    let e = c .before .before .before .before .before .before .before .before in
+    let s = e .before .before .before .before .before .before in
+    omega (arith, ranged-length (s .args .v .now) (s .args .g) (e .if1 .left), s .pre)
 
 -- the start was stored
 began : (p : tie.After-put) → let a = start p .args in
-    Laid (rangedOf (v-of p) ∷ []) (a .n) (a .tags .now) (a .numbers .now) (a .values .now) (p .put .last .0)
-    (p .put .last .1 .0) (p .put .last .1 .1 .0) (p .put .result)
+    Laid (rangedOf (v-of p) ∷ []) (a .n) (a .tags .now) (a .numbers .now) (a .values .now) (a .sums .now)
+    (p .put .last .0) (p .put .last .1 .0) (p .put .last .1 .1 .0) (p .put .last .1 .1 .1 .0) (p .put .result)
 began p = let l = p .before in
-    let f = l .before .before .before .before .before .before in
+    let f = l .before .before .before .before .before .before .before in
     laid-as
     (ranged-start (v-of p) (l .before .type-of .ensures) (l .length-of .ensures) (f .fields-at .ensures))
     (p .put .ensures)
@@ -59,10 +58,10 @@ began p = let l = p .before in
 -- ---- the numbers
 
 numbers : (c : tie.After-part) → let p = stored (c .before .before .before) in
-    let g = p .before .before .before .before .before .before in
+    let g = p .before .before .before .before .before .before .before in
     numbersOf (g .range-of .result) (words16 (c .part .result .now)) ≡ standardNumbers (v-of p)
 numbers c = let p = stored (c .before .before .before) in
-    let g = p .before .before .before .before .before .before in
+    let g = p .before .before .before .before .before .before .before in
     numbers-found (v-of p) (g .before .fields-at .ensures) (g .range-of .ensures) (c .part .ensures .0)
 
 put-numbers-requires : tie.Need-put-numbers-requires
@@ -95,7 +94,7 @@ counted : (c : tie.After-lesser) → let p = stored (c .before .before .before .
     c .lesser .result ≡ min ((length (v-of p) - 12) / 4) (insideCount (rangeOf (fieldsAt (v-of p))))
 counted c = let i = c .before in
     let p = stored (i .before .before .before) in
-    let g = p .before .before .before .before .before .before in
+    let g = p .before .before .before .before .before .before .before in
     c .lesser .ensures
     ∙ ap (min ((length (v-of p) - 12) / 4))
     (i .inside-count .ensures ∙ ap insideCount (g .range-of .ensures ∙ ap rangeOf (g .before .fields-at .ensures)))
@@ -122,7 +121,7 @@ returns-3 c =
     let l = d .before in
     let t = l .before .before in
     let p = stored (t .before .before) in
-    let g = p .before .before .before .before .before .before in
+    let g = p .before .before .before .before .before .before .before in
     let f = g .before in
     let first = first-found Standard (f .fields-at .result) (v-of p) (f .fields-at .ensures) (x .number-at .result)
     (g .range-of .result) (x .number-at .ensures) (g .range-of .ensures) in
@@ -135,8 +134,4 @@ returns-3 c =
 pub put-range-spec : {M : Type 1} → statement M
 put-range-spec =
     tie.close
-    (tie.spec returns (λ c κs. search needs) (λ c κs. search needs) (λ c κs. search needs) (λ c κs. search needs)
-    put-requires (λ c. search needs) (λ c κs. search needs) put-numbers-requires (λ c. search needs)
-    (λ c. search needs) (λ c κs. search needs) (λ c κs. search needs) (λ c κs. search needs) (λ c κs. search needs)
-    put-pairs-requires (λ c. search needs) (λ c. search needs) (λ c. search needs) returns-2 (λ c. search needs)
-    (λ c. search needs) (λ c. search needs) returns-3)
+    (tie.spec returns (λ c κs. search needs) (λ c κs. search needs) (λ c κs. search needs) (λ c κs. search needs) put-requires (λ c. search needs) (λ c κs. search needs) put-numbers-requires (λ c. search needs) (λ c. search needs) (λ c κs. search needs) (λ c κs. search needs) (λ c κs. search needs) (λ c κs. search needs) put-pairs-requires (λ c. search needs) (λ c. search needs) (λ c. search needs) (λ c. search needs) returns-2 (λ c. search needs) (λ c. search needs) (λ c. search needs) (λ c. search needs) returns-3)

@@ -17,6 +17,7 @@ returns c = let t = c .before in
       kind-is (o .kind-of .ensures) (f .first-byte .ensures) (k .kind .given .1) (t .enum-told .given .1),
       a .above .ensures,
       a .before .length-of .ensures .0,
+      a .before .before .nothing .ensures,
     )
 
 returns-2 : tie.Need-returns-2
@@ -31,6 +32,7 @@ returns-2 c = let t = c .before in
       kind-is (o .kind-of .ensures) (f .first-byte .ensures) (k .kind .given .1) (t .enum-told2 .given .1),
       a .above .ensures,
       a .before .length-of .ensures .0,
+      a .before .before .nothing .ensures,
     )
 
 returns-3 : tie.Need-returns-3
@@ -45,25 +47,39 @@ returns-3 c = let t = c .before in
       kind-is (o .kind-of .ensures) (f .first-byte .ensures) (k .kind .given .1) (t .enum-told3 .given .1),
       a .above .ensures,
       a .before .length-of .ensures .0,
+      a .before .before .nothing .ensures,
     )
 
 returns-4 : tie.Need-returns-4
 unfolding inBlock
 returns-4 c = let t = c .before in
-    let o = t .before .before in
+    let k = t .before .before .before in
+    let o = k .before .before in
     let f = o .before in
     let a = f .before in
     rw (
       c .opened4 .ensures,
-      kind-none (o .kind-of .ensures) (f .first-byte .ensures) (t .enum-told4 .given .1),
+      kind-is (o .kind-of .ensures) (f .first-byte .ensures) (k .kind .given .1) (t .enum-told4 .given .1),
       a .above .ensures,
       a .before .length-of .ensures .0,
+      a .before .before .nothing .ensures,
+    )
+
+returns-5 : tie.Need-returns-5
+unfolding inBlock
+returns-5 c = let t = c .before in
+    let o = t .before .before in
+    let f = o .before in
+    let a = f .before in
+    rw (
+      c .opened5 .ensures,
+      kind-none (o .kind-of .ensures) (f .first-byte .ensures) (t .enum-told5 .given .1),
+      a .above .ensures,
+      a .before .length-of .ensures .0,
+      a .before .before .nothing .ensures,
     )
 
 pub in-block-spec : {M : Type 1} → statement M
 in-block-spec =
     tie.close
-    (tie.spec (λ c κs. search needs) (λ c. search needs) (λ c. search needs) (λ c κs. search needs)
-    (λ c κs. search needs) (λ c κs. search needs) (λ c. search needs) (λ c. search needs) (λ c κs. search needs)
-    (λ c. search needs) (λ c κs. search needs) (λ c. search needs) (λ c κs. search needs) (λ c. search needs)
-    (λ c κs. search needs) returns returns-2 returns-3 returns-4)
+    (tie.spec (λ c κs. search needs) (λ c κs. search needs) (λ c. search needs) (λ c. search needs) (λ c κs. search needs) (λ c κs. search needs) (λ c κs. search needs) (λ c. search needs) (λ c. search needs) (λ c κs. search needs) (λ c. search needs) (λ c κs. search needs) (λ c. search needs) (λ c κs. search needs) (λ c. search needs) (λ c κs. search needs) (λ c. search needs) (λ c κs. search needs) returns returns-2 returns-3 returns-4 returns-5)

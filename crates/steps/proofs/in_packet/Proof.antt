@@ -10,4 +10,5 @@ returns c = cc
 
 pub in-packet-spec : {M : Type 1} → statement M
 in-packet-spec =
-    tie.close (tie.spec (λ c κs. search needs) (λ c. search needs) (λ c κs. search needs) returns)
+    tie.close
+    (tie.spec (λ c κs. search needs) (λ c. search needs) (λ c κs. search needs) (λ c κs. search needs) returns)

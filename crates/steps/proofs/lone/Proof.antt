@@ -38,7 +38,12 @@ returns-7 c = rw (c .if7 .taken)
 
 returns-8 : tie.Need-returns-8
 unfolding loneOf
-returns-8 c = let f = c .before .before in
+returns-8 c = rw (c .summary-in .ensures, c .before .if8 .taken)
+
+returns-9 : tie.Need-returns-9
+unfolding loneOf
+returns-9 c = let g = c .before .before in
+    let f = g .before .before in
     let d = f .before .before in
     let e = d .before .before in
     let b = e .before .before in
@@ -49,12 +54,11 @@ returns-8 c = let f = c .before .before in
       ne-eqb _ _ (e .if3 .left),
       ne-eqb _ _ (d .if4 .left),
       ne-eqb _ _ (f .if6 .left),
-      ne-eqb _ _ (c .if7 .left),
+      ne-eqb _ _ (g .if7 .left),
+      ne-eqb _ _ (c .if8 .left),
     )
 
 pub lone-spec : {M : Type 1} → statement M
 lone-spec =
     tie.close
-    (tie.spec (λ c κs. search needs) returns (λ c κs. search needs) (λ c κs. search needs) returns-2
-    (λ c κs. search needs) (λ c κs. search needs) (λ c κs. search needs) returns-3 returns-4 (λ c κs. search needs)
-    returns-5 (λ c κs. search needs) (λ c κs. search needs) returns-6 returns-7 returns-8)
+    (tie.spec (λ c κs. search needs) returns (λ c κs. search needs) (λ c κs. search needs) returns-2 (λ c κs. search needs) (λ c κs. search needs) (λ c κs. search needs) returns-3 returns-4 (λ c κs. search needs) returns-5 (λ c κs. search needs) (λ c κs. search needs) returns-6 returns-7 (λ c κs. search needs) returns-8 returns-9)

@@ -7,12 +7,13 @@ use Rattle.steps.proofs.next_block.Tie as tie
 
 returns : tie.Need-returns
 unfolding nextBlock
-returns c = rw (eq-eqb _ _ (c .if1 .taken))
+returns c = rw (eq-eqb _ _ (c .if1 .taken), c .before .nothing .ensures)
 
 returns-2 : tie.Need-returns-2
 unfolding nextBlock
-returns-2 c = rw (ne-eqb _ _ (c .before .if1 .left), c .above .ensures)
+returns-2 c = rw (ne-eqb _ _ (c .before .if1 .left), c .above .ensures, c .before .before .nothing .ensures)
 
 pub next-block-spec : {M : Type 1} → statement M
 next-block-spec =
-    tie.close (tie.spec returns (λ c κs. search needs) returns-2)
+    tie.close
+    (tie.spec (λ c κs. search needs) returns (λ c κs. search needs) returns-2)

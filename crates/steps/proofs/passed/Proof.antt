@@ -54,7 +54,12 @@ returns-9 c = rw (c .opened6 .ensures, c .before .for-entry2 .ensures, c .before
 
 returns-10 : tie.Need-returns-10
 unfolding passed
-returns-10 c = let i = c .before in
+returns-10 c = rw (c .summed-on .ensures, c .before .if10 .taken)
+
+returns-11 : tie.Need-returns-11
+unfolding passed
+returns-11 c = let j = c .before in
+    let i = j .before .before in
     let h = i .before .before in
     let g = h .before .before in
     let f = g .before .before in
@@ -72,14 +77,10 @@ returns-10 c = let i = c .before in
       ne-eqb _ _ (g .if7 .left),
       ne-eqb _ _ (h .if8 .left),
       ne-eqb _ _ (i .if9 .left),
+      ne-eqb _ _ (j .if10 .left),
     )
 
 pub passed-spec : {M : Type 1} → statement M
 passed-spec =
     tie.close
-    (tie.spec (λ c κs. search needs) (λ c κs. search needs) returns (λ c κs. search needs) returns-2
-    (λ c κs. search needs) (λ c κs. search needs) returns-3 (λ c κs. search needs) (λ c κs. search needs)
-    (λ c κs. search needs) returns-4 (λ c κs. search needs) (λ c κs. search needs) returns-5 (λ c κs. search needs)
-    (λ c κs. search needs) (λ c κs. search needs) (λ c κs. search needs) returns-6 (λ c κs. search needs)
-    (λ c κs. search needs) returns-7 (λ c κs. search needs) (λ c κs. search needs) (λ c κs. search needs) returns-8
-    (λ c κs. search needs) (λ c κs. search needs) returns-9 (λ c κs. search needs) returns-10)
+    (tie.spec (λ c κs. search needs) (λ c κs. search needs) returns (λ c κs. search needs) returns-2 (λ c κs. search needs) (λ c κs. search needs) returns-3 (λ c κs. search needs) (λ c κs. search needs) (λ c κs. search needs) returns-4 (λ c κs. search needs) (λ c κs. search needs) returns-5 (λ c κs. search needs) (λ c κs. search needs) (λ c κs. search needs) (λ c κs. search needs) returns-6 (λ c κs. search needs) (λ c κs. search needs) returns-7 (λ c κs. search needs) (λ c κs. search needs) (λ c κs. search needs) returns-8 (λ c κs. search needs) (λ c κs. search needs) returns-9 (λ c κs. search needs) returns-10 (λ c κs. search needs) returns-11)

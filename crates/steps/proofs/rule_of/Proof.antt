@@ -32,11 +32,18 @@ returns-3 c = let t = c .before .before in
     )
 
 returns-4 : tie.Need-returns-4
-returns-4 c = rw (kind-none (c .before .before .kind-of .ensures) refl (c .enum-told4 .given .1))
+unfolding standardRule
+returns-4 c = let t = c .before in
+    let k = t .before .before .before in
+    rw (
+      c .rule4 .ensures,
+      kind-is (k .before .before .kind-of .ensures) refl (k .k .given .1) (t .enum-told4 .given .1),
+    )
+
+returns-5 : tie.Need-returns-5
+returns-5 c = rw (kind-none (c .before .before .kind-of .ensures) refl (c .enum-told5 .given .1))
 
 pub rule-of-spec : {M : Type 1} → statement M
 rule-of-spec =
     tie.close
-    (tie.spec (λ c κs. search needs) (λ c. search needs) (λ c. search needs) (λ c κs. search needs)
-    (λ c. search needs) (λ c κs. search needs) (λ c. search needs) (λ c κs. search needs) (λ c. search needs)
-    (λ c. search needs) (λ c κs. search needs) (λ c. search needs) returns returns-2 returns-3 returns-4)
+    (tie.spec (λ c κs. search needs) (λ c. search needs) (λ c. search needs) (λ c κs. search needs) (λ c. search needs) (λ c κs. search needs) (λ c. search needs) (λ c κs. search needs) (λ c. search needs) (λ c. search needs) (λ c κs. search needs) (λ c. search needs) (λ c κs. search needs) (λ c. search needs) returns returns-2 returns-3 returns-4 returns-5)

@@ -31,16 +31,24 @@ returns-3 c = let t = c .before in
 
 returns-4 : tie.Need-returns-4
 returns-4 c = let t = c .before in
-    let o = t .before .before in
+    let k = t .before .before .before in
+    let o = k .before .before in
     rw (
-      kind-none (o .kind-of .ensures) (o .before .first-byte .ensures) (t .enum-told4 .given .1),
+      kind-is (o .kind-of .ensures) (o .before .first-byte .ensures) (k .kind .given .1) (t .enum-told4 .given .1),
       o .before .first-byte .ensures,
       c .length-of3 .ensures .0,
+    )
+
+returns-5 : tie.Need-returns-5
+returns-5 c = let t = c .before in
+    let o = t .before .before in
+    rw (
+      kind-none (o .kind-of .ensures) (o .before .first-byte .ensures) (t .enum-told5 .given .1),
+      o .before .first-byte .ensures,
+      c .length-of4 .ensures .0,
     )
 
 pub start-in-spec : {M : Type 1} → statement M
 start-in-spec =
     tie.close
-    (tie.spec (λ c κs. search needs) (λ c κs. search needs) (λ c. search needs) (λ c. search needs)
-    (λ c. search needs) (λ c κs. search needs) (λ c. search needs) (λ c κs. search needs) (λ c. search needs)
-    (λ c κs. search needs) returns returns-2 returns-3 returns-4)
+    (tie.spec (λ c κs. search needs) (λ c κs. search needs) (λ c. search needs) (λ c. search needs) (λ c. search needs) (λ c κs. search needs) (λ c. search needs) (λ c κs. search needs) (λ c. search needs) (λ c κs. search needs) (λ c. search needs) (λ c κs. search needs) returns returns-2 returns-3 returns-4 returns-5)

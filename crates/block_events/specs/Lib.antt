@@ -1,0 +1,2 @@
+-- Pairs: what a call that stores pairs leaves.
+pub mod Pairs
