@@ -90,7 +90,8 @@ module _ (v : List ℕ) where
     echoes-length = count-echoes v (length (entriesOf v)) refl ∙ ap length (events-echoes v k)
 
     pub echoes-laid : {n n1 n2 : ℕ} {t u w z t1 u1 w1 z1 t2 w2 : List ℕ}
-        → Laid (startOf v ∷ []) n t u w z t1 u1 w1 z1 n1 → t2 ≡ laid tagPart (map Entry (entriesOf v)) n1 t1 → w2 ≡ laid valuePart (map Entry (entriesOf v)) n1 w1
+        → Laid (startOf v ∷ []) n t u w z t1 u1 w1 z1 n1 → t2 ≡ laid tagPart (map Entry (entriesOf v)) n1 t1
+        → w2 ≡ laid valuePart (map Entry (entriesOf v)) n1 w1
         → n2 ≡ n1 + length (entriesOf v) → Laid (blockEvents v) n t u w z t2 u1 w2 z1 n2
     echoes-laid p q r s = laid-as (events-echoes v k) (and-then p (laid-entries (entriesOf v) q r s))
 

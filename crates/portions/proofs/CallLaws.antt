@@ -12,9 +12,8 @@ use Rattle.def_refusals.specs.declared.Refusal.the-variants.{NoRoom}
 use Rattle.def_refusals.specs.declared.Checked.{Checked}
 use Rattle.def_refusals.specs.declared.Checked.the-variants.{Fine, Unfit}
 use Rattle.def_refusals.specs.Answers.{thenCheck}
-use Rattle.def_questions.specs.Questions.{least3}
 use Rattle.def_portions.specs.Calls.{roomFault}
-use Rattle.def_portions.specs.Lists.{laid}
+use Rattle.def_portions.specs.Lists.{laidBy, roomIn}
 use Rattle.event_lists.specs.Laid.{Laid}
 use Rattle.states.specs.declared.Portions.{Portions}
 use Rattle.states.specs.Steps.{faultOf, after, shows}
@@ -56,10 +55,11 @@ room-fine st x room e =
     leb-true _ _ (need-fine (leb (length (shows st x)) room) _ f)
 
 -- a call that takes all its bytes, and one that takes nothing
-module _ {st : Portions} {x t u v : List ℕ} where
-  pub following : {s : Portions} {n : ℕ} {z : Checked} {t1 u1 v1 : List ℕ} → callFault st x (least3 t u v) ≡ Fine
-      → s ≡ after st x → z ≡ faultOf s → Laid (shows st x) 0 t u v t1 u1 v1 n
-      → Following st x t u v (record { state = s; taken = length x; events = n; refusal = z }) t1 u1 v1
+module _ {st : Portions} {x t u v w : List ℕ} where
+  pub following : {s : Portions} {n : ℕ} {z : Checked} {t1 u1 v1 w1 : List ℕ}
+      → callFault st x (roomIn t u v w) ≡ Fine → s ≡ after st x → z ≡ faultOf s
+      → Laid (shows st x) 0 t u v w t1 u1 v1 w1 n
+      → Following st x t u v w (record { state = s; taken = length x; events = n; refusal = z }) t1 u1 v1 w1
   unfolding followedOf givenOf
   following f e g l =
       record {
@@ -67,9 +67,10 @@ module _ {st : Portions} {x t u v : List ℕ} where
         tags = rw f (l .tags);
         numbers = rw f (l .numbers);
         values = rw f (l .values);
+        sums = rw f (l .sums);
       }
 
-  pub unmoved : {y : Refusal} → callFault st x (least3 t u v) ≡ Unfit y
-      → Following st x t u v (record { state = st; taken = 0; events = 0; refusal = Unfit y }) t u v
-  unfolding followedOf givenOf laid
-  unmoved f = record { answer = rw f; tags = rw f; numbers = rw f; values = rw f }
+  pub unmoved : {y : Refusal} → callFault st x (roomIn t u v w) ≡ Unfit y
+      → Following st x t u v w (record { state = st; taken = 0; events = 0; refusal = Unfit y }) t u v w
+  unfolding followedOf givenOf laidBy
+  unmoved f = record { answer = rw f; tags = rw f; numbers = rw f; values = rw f; sums = rw f }

@@ -33,8 +33,8 @@ module _ (st : Portions) where
     pub length-word : length xs ≡ length (shownBy st)
     length-word = sym (length-map xs Number) ∙ ap length shown-as
 
-    pub word-laid : {n n1 : ℕ} {t u v t1 u1 : List ℕ} → t1 ≡ laid tagPart (map Number xs) n t
-        → u1 ≡ laid numberPart (map Number xs) n u → n1 ≡ n + length xs → Laid (shownBy st) n t u v t1 u1 v n1
+    pub word-laid : {n n1 : ℕ} {t u v z t1 u1 : List ℕ} → t1 ≡ laid tagPart (map Number xs) n t
+        → u1 ≡ laid numberPart (map Number xs) n u → n1 ≡ n + length xs → Laid (shownBy st) n t u v z t1 u1 v z n1
     word-laid p q r = laid-as shown-as (laid-word xs p q r)
 
   -- one event e
@@ -42,11 +42,11 @@ module _ (st : Portions) where
     pub length-lone : length (shownBy st) ≡ 1
     length-lone = ap length (shown-lone st (One e) w o)
 
-    pub lone-laid : {n n1 : ℕ} {t u v t1 u1 v1 : List ℕ} → Laid (e ∷ []) n t u v t1 u1 v1 n1
-        → Laid (shownBy st) n t u v t1 u1 v1 n1
+    pub lone-laid : {n n1 : ℕ} {t u v z t1 u1 v1 z1 : List ℕ} → Laid (e ∷ []) n t u v z t1 u1 v1 z1 n1
+        → Laid (shownBy st) n t u v z t1 u1 v1 z1 n1
     lone-laid p = laid-as (sym (shown-lone st (One e) w o)) p
 
   -- none
-  pub nothing-laid : (st .item ≡ word → ⊥) → loneOf st ≡ Nothing → {n : ℕ} {t u v : List ℕ}
-      → Laid (shownBy st) n t u v t u v n
+  pub nothing-laid : (st .item ≡ word → ⊥) → loneOf st ≡ Nothing → {n : ℕ} {t u v z : List ℕ}
+      → Laid (shownBy st) n t u v z t u v z n
   nothing-laid w o = laid-as (sym (shown-lone st Nothing w o)) laid-none

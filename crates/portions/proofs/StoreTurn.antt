@@ -6,10 +6,10 @@ use mathlib.Core.Path.{_≡_, refl, sym, ap, _∙_}
 use mathlib.Core.List.{List, [], _++_, append-assoc, append-nil}
 use native.Mathlib.Omega.{arith}
 use lib.ListN.{length, drop, length-append, drop-of-length-le}
-use Rattle.def_questions.specs.Questions.{least3}
 use Rattle.def_portions.specs.declared.Event.{Event}
+use Rattle.def_portions.specs.Lists.{roomIn}
 use Rattle.event_lists.specs.Laid.{Laid}
-use Rattle.event_lists.proofs.LaidLaws.{laid-none, laid-as, and-then, same-tags, same-numbers, same-values}
+use Rattle.event_lists.proofs.LaidLaws.{laid-none, laid-as, and-then, same-room}
 use Rattle.states.specs.declared.Portions.{Portions}
 use Rattle.states.specs.Steps.{after, shows}
 use Rattle.states.proofs.RunLaws.{after-closed, shows-closed}
@@ -17,30 +17,30 @@ use Rattle.portions.specs.declared.Turn.{Turn}
 use Rattle.portions.specs.Turn.{TurnCounted, TurnStored}
 use Rattle.portions.proofs.TurnLaws.{turned-length}
 
--- the bytes x from the state st on, up to an index: the state s there, and in three lists the events up to there
-pub record Underway (st : Portions) (x t₀ u₀ v₀ t u v : List ℕ) (s : Portions) (at n : ℕ) : Type 0 where
+-- the bytes x from the state st on, up to an index: the state s there, and in four lists the events up to there
+pub record Underway (st : Portions) (x t₀ u₀ v₀ z₀ t u v z : List ℕ) (s : Portions) (at n : ℕ) : Type 0 where
   pub shown : List Event
   pub inside : at ≤ length x
   pub state : after s (drop at x) ≡ after st x
   pub rest : shown ++ shows s (drop at x) ≡ shows st x
-  pub stored : Laid shown 0 t₀ u₀ v₀ t u v n
+  pub stored : Laid shown 0 t₀ u₀ v₀ z₀ t u v z n
 
-module _ {st : Portions} {x t₀ u₀ v₀ : List ℕ} where
-  pub begun : Underway st x t₀ u₀ v₀ t₀ u₀ v₀ st 0 0
+module _ {st : Portions} {x t₀ u₀ v₀ z₀ : List ℕ} where
+  pub begun : Underway st x t₀ u₀ v₀ z₀ t₀ u₀ v₀ z₀ st 0 0
   begun = record { shown = []; inside = omega arith; state = refl; rest = refl; stored = laid-none }
 
-  module _ {t u v : List ℕ} {s : Portions} {at n : ℕ} (w : Underway st x t₀ u₀ v₀ t u v s at n) where
+  module _ {t u v z : List ℕ} {s : Portions} {at n : ℕ} (w : Underway st x t₀ u₀ v₀ z₀ t u v z s at n) where
     -- there is room for the events to come
-    pub room : length (shows st x) ≤ least3 t₀ u₀ v₀ → n + length (shows s (drop at x)) ≤ least3 t u v
+    pub room : length (shows st x) ≤ roomIn t₀ u₀ v₀ z₀ → n + length (shows s (drop at x)) ≤ roomIn t u v z
     room h =
         let l = w .stored in
         let a = ap length (w .rest) in
         let b = length-append (w .shown) (shows s (drop at x)) in
-        omega (arith, a, b, l .past, same-tags l, same-numbers l, same-values l)
+        rw (same-room l) (omega (arith, a, b, l .past, h))
 
     -- one turn
-    pub onward : {t1 u1 v1 : List ℕ} {r : Turn} → TurnStored s x at n t u v r t1 u1 v1
-        → Underway st x t₀ u₀ v₀ t1 u1 v1 (r .state) (at + r .taken) (r .events)
+    pub onward : {t1 u1 v1 z1 : List ℕ} {r : Turn} → TurnStored s x at n t u v z r t1 u1 v1 z1
+        → Underway st x t₀ u₀ v₀ z₀ t1 u1 v1 z1 (r .state) (at + r .taken) (r .events)
     onward k =
         record {
           shown = w .shown ++ k .shown;
@@ -51,16 +51,16 @@ module _ {st : Portions} {x t₀ u₀ v₀ : List ℕ} where
         }
 
     -- no byte is left, or the state takes none
-    pub ended : length x ≤ at → (s ≡ after st x) × Laid (shows st x) 0 t₀ u₀ v₀ t u v n
+    pub ended : length x ≤ at → (s ≡ after st x) × Laid (shows st x) 0 t₀ u₀ v₀ z₀ t u v z n
     unfolding after shows
     ended h =
         let e = drop-of-length-le x {i = at} h in
         (rw e at (w .state), laid-as (sym (append-nil (w .shown)) ∙ (rw e at (w .rest))) (w .stored))
 
-    pub closed : s .missing ≡ 0 → (s ≡ after st x) × Laid (shows st x) 0 t₀ u₀ v₀ t u v n
-    closed z =
-        let e = shows-closed s z (drop at x) in (
-          sym (after-closed s z (drop at x)) ∙ w .state,
+    pub closed : s .missing ≡ 0 → (s ≡ after st x) × Laid (shows st x) 0 t₀ u₀ v₀ z₀ t u v z n
+    closed m =
+        let e = shows-closed s m (drop at x) in (
+          sym (after-closed s m (drop at x)) ∙ w .state,
           laid-as (sym (append-nil (w .shown)) ∙ (rw e at (w .rest))) (w .stored),
         )
 

@@ -79,9 +79,9 @@ module _ {s : Portions} {x : List ℕ} {at m : ℕ} (k : Taken s x at m) where
       → TurnCounted s x at (record { state = r .state; events = r .events; taken = m })
   some-counted r e = rw e (record { shown = settledEvents (held s x at m); turn = some-turn; events = refl })
 
-  pub some-stored : {st : Portions} {n n1 : ℕ} {t u v t1 u1 v1 : List ℕ} → st ≡ settled (held s x at m)
-      → Laid (settledEvents (held s x at m)) n t u v t1 u1 v1 n1
-      → TurnStored s x at n t u v (record { state = st; events = n1; taken = m }) t1 u1 v1
+  pub some-stored : {st : Portions} {n n1 : ℕ} {t u v z t1 u1 v1 z1 : List ℕ} → st ≡ settled (held s x at m)
+      → Laid (settledEvents (held s x at m)) n t u v z t1 u1 v1 z1 n1
+      → TurnStored s x at n t u v z (record { state = st; events = n1; taken = m }) t1 u1 v1 z1
   some-stored e l = rw e (record { shown = settledEvents (held s x at m); turn = some-turn; stored = l })
 
 -- ---- a whole block
@@ -167,9 +167,9 @@ module _ {s : Portions} {x : List ℕ} {at l : ℕ} (w : WholeAt s x at l) where
           events = rw (length-append whole (endIn nextOne)) (omega (arith, p, (rw next-one at q)));
         }
 
-    pub whole-stored : {n n1 n2 : ℕ} {t u v t1 u1 v1 t2 u2 v2 : List ℕ} → Laid whole n t u v t1 u1 v1 n1
-        → Laid (endIn st) n1 t1 u1 v1 t2 u2 v2 n2
-        → TurnStored s x at n t u v (record { state = st; events = n2; taken = l }) t2 u2 v2
+    pub whole-stored : {n n1 n2 : ℕ} {t u v z t1 u1 v1 z1 t2 u2 v2 z2 : List ℕ} → Laid whole n t u v z t1 u1 v1 z1 n1
+        → Laid (endIn st) n1 t1 u1 v1 z1 t2 u2 v2 z2 n2
+        → TurnStored s x at n t u v z (record { state = st; events = n2; taken = l }) t2 u2 v2 z2
     whole-stored p q =
         record {
           shown = whole ++ endIn nextOne;

@@ -3,7 +3,7 @@
 --                     state s is before it
 --     Turned          from an index on, m bytes first: their events es, and the state st behind them
 --     TurnCounted     a turn whose events are counted
---     TurnStored      a turn whose events are stored in three lists from index n on
+--     TurnStored      a turn whose events are stored in four lists from index n on
 use Prim.Native.Nat.{ℕ, _+_, _≤_, _<_}
 use mathlib.Core.Path.{_≡_}
 use mathlib.Core.List.{List, _++_}
@@ -39,8 +39,8 @@ pub record TurnCounted (s : Portions) (x : List ℕ) (at : ℕ) (r : Turn) : Typ
   pub turn : Turned s x at shown (r .state) (r .taken)
   pub events : r .events ≡ length shown
 
-pub record TurnStored (s : Portions) (x : List ℕ) (at n : ℕ) (t u v : List ℕ) (r : Turn) (t′ u′ v′ : List ℕ) : Type 0
-  where
-    pub shown : List Event
-    pub turn : Turned s x at shown (r .state) (r .taken)
-    pub stored : Laid shown n t u v t′ u′ v′ (r .events)
+pub record TurnStored (s : Portions) (x : List ℕ) (at n : ℕ) (t u v w : List ℕ) (r : Turn) (t′ u′ v′ w′ : List ℕ)
+    : Type 0 where
+  pub shown : List Event
+  pub turn : Turned s x at shown (r .state) (r .taken)
+  pub stored : Laid shown n t u v w t′ u′ v′ w′ (r .events)

@@ -42,8 +42,8 @@ fn put_item(
     n: usize,
 ) -> usize
     requires { ⌜ n + length (shownBy st) ≤ roomIn (now tags) (now numbers) (now values) (now sums) ⌝ }
-    ensures { λ r. ⌜ Laid (shownBy st) n (now (tags .entry)) (now (numbers .entry)) (now (values .entry)) (now (sums .entry))
-        (now (tags .exit)) (now (numbers .exit)) (now (values .exit)) (now (sums .exit)) r ⌝ }
+    ensures { λ r. ⌜ Laid (shownBy st) n (now (tags .entry)) (now (numbers .entry)) (now (values .entry))
+        (now (sums .entry)) (now (tags .exit)) (now (numbers .exit)) (now (values .exit)) (now (sums .exit)) r ⌝ }
 {
     if st.item == states::WORD {
         let k = st.known;
@@ -74,8 +74,8 @@ fn put_end(
     n: usize,
 ) -> usize
     requires { ⌜ n + length (endIn st) ≤ roomIn (now tags) (now numbers) (now values) (now sums) ⌝ }
-    ensures { λ r. ⌜ Laid (endIn st) n (now (tags .entry)) (now (numbers .entry)) (now (values .entry)) (now (sums .entry))
-        (now (tags .exit)) (now (numbers .exit)) (now (values .exit)) (now (sums .exit)) r ⌝ }
+    ensures { λ r. ⌜ Laid (endIn st) n (now (tags .entry)) (now (numbers .entry)) (now (values .entry))
+        (now (sums .entry)) (now (tags .exit)) (now (numbers .exit)) (now (values .exit)) (now (sums .exit)) r ⌝ }
 {
     if st.item == states::OVER {
         return event_lists::put(tags, numbers, values, sums, n, Event::End);
@@ -94,8 +94,8 @@ fn put_settled(
 ) -> Settled
     requires { ⌜ n + length (settledEvents st) ≤ roomIn (now tags) (now numbers) (now values) (now sums) ⌝ }
     ensures { λ r. ⌜ r .state ≡ settled st ⌝ }
-    ensures { λ r. ⌜ Laid (settledEvents st) n (now (tags .entry)) (now (numbers .entry)) (now (values .entry)) (now (sums .entry))
-        (now (tags .exit)) (now (numbers .exit)) (now (values .exit)) (now (sums .exit)) (r .events) ⌝ }
+    ensures { λ r. ⌜ Laid (settledEvents st) n (now (tags .entry)) (now (numbers .entry)) (now (values .entry))
+        (now (sums .entry)) (now (tags .exit)) (now (numbers .exit)) (now (values .exit)) (now (sums .exit)) (r .events) ⌝ }
 {
     if st.missing != 0 {
         return Settled {
@@ -250,8 +250,8 @@ fn put_whole(
 ) -> Turn
     requires { ⌜ n + length (shows s (drop at (now x))) ≤ roomIn (now tags) (now numbers) (now values) (now sums) ⌝ }
     requires { ⌜ WholeAt s (now x) at l ⌝ }
-    ensures { λ r. ⌜ TurnStored s (now (x .entry)) at n (now (tags .entry)) (now (numbers .entry)) (now (values .entry)) (now (sums .entry)) r
-        (now (tags .exit)) (now (numbers .exit)) (now (values .exit)) (now (sums .exit)) ⌝ }
+    ensures { λ r. ⌜ TurnStored s (now (x .entry)) at n (now (tags .entry)) (now (numbers .entry)) (now (values .entry))
+        (now (sums .entry)) r (now (tags .exit)) (now (numbers .exit)) (now (values .exit)) (now (sums .exit)) ⌝ }
 {
     let next = steps::next_block(s.known, utils::above(s.behind, l - 4));
     let past = block_events::put_block(utils::part(x, at, l), tags, numbers, values, sums, n);
@@ -275,8 +275,8 @@ fn put_some(
 ) -> Turn
     requires { ⌜ n + length (shows s (drop at (now x))) ≤ roomIn (now tags) (now numbers) (now values) (now sums) ⌝ }
     requires { ⌜ (s .missing ≡ 0 → ⊥) × (at < length (now x)) ⌝ }
-    ensures { λ r. ⌜ TurnStored s (now (x .entry)) at n (now (tags .entry)) (now (numbers .entry)) (now (values .entry)) (now (sums .entry)) r
-        (now (tags .exit)) (now (numbers .exit)) (now (values .exit)) (now (sums .exit)) ⌝ }
+    ensures { λ r. ⌜ TurnStored s (now (x .entry)) at n (now (tags .entry)) (now (numbers .entry)) (now (values .entry))
+        (now (sums .entry)) r (now (tags .exit)) (now (numbers .exit)) (now (values .exit)) (now (sums .exit)) ⌝ }
 {
     let m = utils::lesser(s.missing, x.len() - at);
     let r = put_settled(steps::hold(s, x, at, m), tags, numbers, values, sums, n);
@@ -300,8 +300,8 @@ fn put_turn(
 ) -> Turn
     requires { ⌜ n + length (shows s (drop at (now x))) ≤ roomIn (now tags) (now numbers) (now values) (now sums) ⌝ }
     requires { ⌜ (s .missing ≡ 0 → ⊥) × (at < length (now x)) ⌝ }
-    ensures { λ r. ⌜ TurnStored s (now (x .entry)) at n (now (tags .entry)) (now (numbers .entry)) (now (values .entry)) (now (sums .entry)) r
-        (now (tags .exit)) (now (numbers .exit)) (now (values .exit)) (now (sums .exit)) ⌝ }
+    ensures { λ r. ⌜ TurnStored s (now (x .entry)) at n (now (tags .entry)) (now (numbers .entry)) (now (values .entry))
+        (now (sums .entry)) r (now (tags .exit)) (now (numbers .exit)) (now (values .exit)) (now (sums .exit)) ⌝ }
 {
     let l = whole_block(s, x, at);
     if l != 0 {
@@ -322,7 +322,8 @@ fn store(
     requires { ⌜ length (shows st (now x)) ≤ roomIn (now tags) (now numbers) (now values) (now sums) ⌝ }
     ensures { λ r. ⌜ r .state ≡ after st (now (x .entry)) ⌝ }
     ensures { λ r. ⌜ Laid (shows st (now (x .entry))) 0 (now (tags .entry)) (now (numbers .entry))
-        (now (values .entry)) (now (sums .entry)) (now (tags .exit)) (now (numbers .exit)) (now (values .exit)) (now (sums .exit)) (r .events) ⌝ }
+        (now (values .entry)) (now (sums .entry)) (now (tags .exit)) (now (numbers .exit)) (now (values .exit))
+        (now (sums .exit)) (r .events) ⌝ }
 {
     let mut at: usize = 0;
     let mut n: usize = 0;
@@ -440,8 +441,8 @@ pub fn follow(
     values: &mut [u64],
     sums: &mut [u64],
 ) -> Followed
-    ensures { λ r. ⌜ Following st (now (x .entry)) (now (tags .entry)) (now (numbers .entry)) (now (values .entry)) (now (sums .entry)) r
-        (now (tags .exit)) (now (numbers .exit)) (now (values .exit)) (now (sums .exit)) ⌝ }
+    ensures { λ r. ⌜ Following st (now (x .entry)) (now (tags .entry)) (now (numbers .entry)) (now (values .entry))
+        (now (sums .entry)) r (now (tags .exit)) (now (numbers .exit)) (now (values .exit)) (now (sums .exit)) ⌝ }
 {
     match call_fault(st, x, room_in(tags, numbers, values, sums)) {
         Checked::Fine => {

@@ -71,7 +71,8 @@ returns-5 c = let e = c .before in
     let o = k .before .before in
     let t = o .before in
     let v = t .before .before .args .v .now in
-    sym (ap (λ (es : List Event). length (startOf v ∷ es)) (from-short v 40 (Summed (summaryAt v) ∷ []) (c .if2 .taken)))
+    let q = from-short v 40 (Summed (summaryAt v) ∷ []) (c .if2 .taken) in
+    sym (ap (λ (es : List Event). length (startOf v ∷ es)) q)
     ∙ ap length
     (events-summary v (kind-known v (t .type-of .ensures) (o .kind-of .ensures) (k .k .given .1)
     ∙ ap AKind (e .enum-told3 .given .1)))
@@ -82,7 +83,8 @@ returns-6 c = let e = c .before in
     let o = k .before .before in
     let t = o .before in
     let v = t .before .before .args .v .now in
-    sym (ap (λ (es : List Event). length (startOf v ∷ es)) (from-enough v 40 (Summed (summaryAt v) ∷ []) (c .if2 .left)))
+    let q = from-enough v 40 (Summed (summaryAt v) ∷ []) (c .if2 .left) in
+    sym (ap (λ (es : List Event). length (startOf v ∷ es)) q)
     ∙ ap length
     (events-summary v (kind-known v (t .type-of .ensures) (o .kind-of .ensures) (k .k .given .1)
     ∙ ap AKind (e .enum-told3 .given .1)))
@@ -96,4 +98,6 @@ returns-7 c = let o = c .before .before in
 pub count-block-spec : {M : Type 1} → statement M
 count-block-spec =
     tie.close
-    (tie.spec (λ c κs. search needs) (λ c κs. search needs) (λ c. search needs) (λ c. search needs) (λ c κs. search needs) (λ c. search needs) (λ c. search needs) (λ c κs. search needs) add-result (λ c. search needs) (λ c. search needs) returns returns-2 returns-3 returns-4 returns-5 returns-6 returns-7)
+    (tie.spec (λ c κs. search needs) (λ c κs. search needs) (λ c. search needs) (λ c. search needs)
+    (λ c κs. search needs) (λ c. search needs) (λ c. search needs) (λ c κs. search needs) add-result (λ c. search needs)
+    (λ c. search needs) returns returns-2 returns-3 returns-4 returns-5 returns-6 returns-7)

@@ -99,7 +99,8 @@ put-requires-3 c κs = let e = c .before .before .before .before .before in
     omega (arith, echoes-length (v-of o) (echoes e), start o .pre)
 
 -- the start was stored
-echoes-began : (p : tie.After-put3) → let o = asked (p .before .before .before .before .before .before .before .before) in
+echoes-began : (p : tie.After-put3)
+    → let o = asked (p .before .before .before .before .before .before .before .before) in
     let a = start o .args in
     Laid (startOf (v-of o) ∷ []) (a .n) (a .tags .now) (a .numbers .now) (a .values .now) (a .sums .now)
     (p .put3 .last .0) (p .put3 .last .1 .0) (p .put3 .last .1 .1 .0) (p .put3 .last .1 .1 .1 .0) (p .put3 .result)
@@ -140,7 +141,8 @@ put-requires-4 c κs = let e = c .before .before .before .before .before in
     omega (arith, summary-length (v-of o) (summary e), start o .pre)
 
 -- the start was stored
-summary-began : (p : tie.After-put4) → let o = asked (p .before .before .before .before .before .before .before .before) in
+summary-began : (p : tie.After-put4)
+    → let o = asked (p .before .before .before .before .before .before .before .before) in
     let a = start o .args in
     Laid (startOf (v-of o) ∷ []) (a .n) (a .tags .now) (a .numbers .now) (a .values .now) (a .sums .now)
     (p .put4 .last .0) (p .put4 .last .1 .0) (p .put4 .last .1 .1 .0) (p .put4 .last .1 .1 .1 .0) (p .put4 .result)
@@ -193,4 +195,13 @@ returns-7 c = let p = c .before .before .before .before .before .before .before 
 pub put-block-spec : {M : Type 1} → statement M
 put-block-spec =
     tie.close
-    (tie.spec (λ c κs. search needs) (λ c κs. search needs) (λ c. search needs) (λ c. search needs) put-range-requires (λ c. search needs) (λ c κs. search needs) put-requires (λ c. search needs) (λ c. search needs) (λ c. search needs) (λ c. search needs) returns (λ c κs. search needs) put-requires-2 (λ c. search needs) (λ c κs. search needs) put-requires-3 (λ c κs. search needs) put-entries-requires (λ c. search needs) (λ c κs. search needs) put-requires-4 (λ c. search needs) (λ c. search needs) (λ c. search needs) (λ c. search needs) returns-2 (λ c κs. search needs) put-requires-5 (λ c. search needs) (λ c κs. search needs) put-requires-6 (λ c. search needs) (λ c. search needs) (λ c. search needs) (λ c. search needs) returns-3 (λ c. search needs) (λ c. search needs) (λ c. search needs) (λ c. search needs) returns-4 (λ c. search needs) (λ c. search needs) (λ c. search needs) (λ c. search needs) returns-5 (λ c. search needs) (λ c. search needs) (λ c. search needs) (λ c. search needs) returns-6 (λ c. search needs) (λ c. search needs) (λ c. search needs) (λ c. search needs) returns-7)
+    (tie.spec (λ c κs. search needs) (λ c κs. search needs) (λ c. search needs) (λ c. search needs) put-range-requires
+    (λ c. search needs) (λ c κs. search needs) put-requires (λ c. search needs) (λ c. search needs) (λ c. search needs)
+    (λ c. search needs) returns (λ c κs. search needs) put-requires-2 (λ c. search needs) (λ c κs. search needs)
+    put-requires-3 (λ c κs. search needs) put-entries-requires (λ c. search needs) (λ c κs. search needs) put-requires-4
+    (λ c. search needs) (λ c. search needs) (λ c. search needs) (λ c. search needs) returns-2 (λ c κs. search needs)
+    put-requires-5 (λ c. search needs) (λ c κs. search needs) put-requires-6 (λ c. search needs) (λ c. search needs)
+    (λ c. search needs) (λ c. search needs) returns-3 (λ c. search needs) (λ c. search needs) (λ c. search needs)
+    (λ c. search needs) returns-4 (λ c. search needs) (λ c. search needs) (λ c. search needs) (λ c. search needs)
+    returns-5 (λ c. search needs) (λ c. search needs) (λ c. search needs) (λ c. search needs) returns-6
+    (λ c. search needs) (λ c. search needs) (λ c. search needs) (λ c. search needs) returns-7)

@@ -37,7 +37,8 @@ abbrev stored : tie.After-slice-known8 → tie.After-put
 stored s = s .before .before .before .before .before .before .before .before
 
 returns : tie.Need-returns
-returns c = let a = c .before .before .before .before .before .before .args in ranged-short (a .v .now) (a .g) (c .if1 .taken)
+returns c = let a = c .before .before .before .before .before .before .args in
+    ranged-short (a .v .now) (a .g) (c .if1 .taken)
 
 put-requires : tie.Need-put-requires
 put-requires c κs =
@@ -134,4 +135,8 @@ returns-3 c =
 pub put-range-spec : {M : Type 1} → statement M
 put-range-spec =
     tie.close
-    (tie.spec returns (λ c κs. search needs) (λ c κs. search needs) (λ c κs. search needs) (λ c κs. search needs) put-requires (λ c. search needs) (λ c κs. search needs) put-numbers-requires (λ c. search needs) (λ c. search needs) (λ c κs. search needs) (λ c κs. search needs) (λ c κs. search needs) (λ c κs. search needs) put-pairs-requires (λ c. search needs) (λ c. search needs) (λ c. search needs) (λ c. search needs) returns-2 (λ c. search needs) (λ c. search needs) (λ c. search needs) (λ c. search needs) returns-3)
+    (tie.spec returns (λ c κs. search needs) (λ c κs. search needs) (λ c κs. search needs) (λ c κs. search needs)
+    put-requires (λ c. search needs) (λ c κs. search needs) put-numbers-requires (λ c. search needs) (λ c. search needs)
+    (λ c κs. search needs) (λ c κs. search needs) (λ c κs. search needs) (λ c κs. search needs) put-pairs-requires
+    (λ c. search needs) (λ c. search needs) (λ c. search needs) (λ c. search needs) returns-2 (λ c. search needs)
+    (λ c. search needs) (λ c. search needs) (λ c. search needs) returns-3)

@@ -13,7 +13,7 @@ use Rattle.portions.proofs.put_item.Tie as tie
 
 -- the function's start, from where its item was tested
 abbrev start : tie.After-struct-known → tie.Start
-start k = k .before .before .before .before
+start k = k .before .before .before .before .before
 
 -- a word's numbers, as they are stored
 abbrev tested : tie.After-low16 → tie.Then1
@@ -45,16 +45,16 @@ returns c =
 
 put-requires : tie.Need-put-requires
 put-requires c κs =
-    let e = c .before .before .before .before in
+    let e = c .before .before .before .before .before in
     let l = e .before .before in
     let s = start (l .before .before) in
     let k = length-lone (s .args .st) (l .before .if1 .left) _ (sym (l .lone .ensures) ∙ e .e .given .1) in
-    (omega (arith, k, s .pre), omega (arith, k, s .pre), omega (arith, k, s .pre))
+    omega (arith, k, s .pre)
 
 returns-2 : tie.Need-returns-2
 returns-2 c =
-    let p = c .before .before .before .before .before .before in
-    let e = p .before .before .before .before .before in
+    let p = c .before .before .before .before .before .before .before .before in
+    let e = p .before .before .before .before .before .before in
     let l = e .before .before in
     let s = start (l .before .before) in
     lone-laid (s .args .st) (l .before .if1 .left) _ (sym (l .lone .ensures) ∙ e .e .given .1) (p .put .ensures)
@@ -68,6 +68,6 @@ returns-3 c =
 pub put-item-spec : {M : Type 1} → statement M
 put-item-spec =
     tie.close
-    (tie.spec (λ c κs. search needs) (λ c κs. search needs) (λ c κs. search needs) put-word-requires
-    (λ c. search needs) (λ c. search needs) returns (λ c κs. search needs) (λ c. search needs) put-requires
+    (tie.spec (λ c κs. search needs) (λ c κs. search needs) (λ c κs. search needs) put-word-requires (λ c. search needs)
+    (λ c. search needs) returns (λ c κs. search needs) (λ c. search needs) put-requires (λ c. search needs)
     (λ c. search needs) (λ c. search needs) (λ c. search needs) (λ c. search needs) returns-2 returns-3)

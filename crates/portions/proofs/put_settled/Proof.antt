@@ -4,7 +4,7 @@ use mathlib.Core.Path.{_≡_, sym, ap, _∙_}
 use native.Mathlib.Omega.{arith}
 use lib.ListN.{length, length-append}
 use Rattle.def_refusals.specs.declared.Checked.the-variants.{Fine}
-use Rattle.event_lists.proofs.LaidLaws.{laid-none, laid-as, and-then, same-tags, same-numbers, same-values}
+use Rattle.event_lists.proofs.LaidLaws.{laid-none, laid-as, and-then, same-room}
 use Rattle.states.specs.Steps.{faultOf, passed, shownBy, settledEvents, endIn}
 use Rattle.steps.proofs.SettledLaws.{settled-open, events-open, settled-fine, events-fine, settled-unfit, events-unfit}
 use borrow.Author.Needs.{needs}
@@ -13,7 +13,7 @@ use Rattle.portions.proofs.put_settled.Tie as tie
 
 -- the function's start, from where bytes were missing or not
 abbrev start : tie.After-struct-known → tie.Start
-start k = k .before .before .before .before
+start k = k .before .before .before .before .before
 
 -- a complete item that is fine
 abbrev complete : tie.After-enum-told → tie.Else1
@@ -32,10 +32,10 @@ weight t =
 
 -- where its events are stored
 abbrev told : tie.After-put-item → tie.After-enum-told
-told p = p .before .before .before .before
+told p = p .before .before .before .before .before
 
 abbrev stored : tie.After-passed → tie.After-put-item
-stored n = n .before .before .before .before .before .before .before
+stored n = n .before .before .before .before .before .before .before .before .before
 
 returns : tie.Need-returns
 returns c =
@@ -44,30 +44,21 @@ returns c =
 
 put-item-requires : tie.Need-put-item-requires
 put-item-requires c κs =
-    let t = c .before .before .before in omega (arith, start (complete t .before) .pre, weight t)
+    let t = c .before .before .before .before in omega (arith, start (complete t .before) .pre, weight t)
 
 put-end-requires : tie.Need-put-end-requires
 put-end-requires c κs =
-    let n = c .before .before .before in
+    let n = c .before .before .before .before in
     let p = stored n in
     let t = told p in
     let l = p .put-item .ensures in
     let e = ap (λ q. length (endIn q)) (n .passed .ensures) in
-    omega (
-      arith,
-      start (complete t .before) .pre,
-      weight t,
-      e,
-      l .past,
-      same-tags l,
-      same-numbers l,
-      same-values l,
-    )
+    rw (same-room l) (omega (arith, start (complete t .before) .pre, weight t, e, l .past))
 
 returns-2 : tie.Need-returns-2
 returns-2 c =
-    let q = c .before .before .before .before .before .before in
-    let n = q .before .before .before .before in
+    let q = c .before .before .before .before .before .before .before .before in
+    let n = q .before .before .before .before .before in
     let p = stored n in
     let t = told p in
     let o = complete t in
@@ -89,5 +80,5 @@ pub put-settled-spec : {M : Type 1} → statement M
 put-settled-spec =
     tie.close
     (tie.spec returns (λ c κs. search needs) (λ c. search needs) put-item-requires (λ c κs. search needs)
-    put-end-requires (λ c. search needs) (λ c. search needs) (λ c. search needs) (λ c. search needs) returns-2
-    returns-3)
+    put-end-requires (λ c. search needs) (λ c. search needs) (λ c. search needs) (λ c. search needs) (λ c. search needs)
+    returns-2 returns-3)

@@ -61,4 +61,7 @@ returns-9 c = let g = c .before .before in
 pub lone-spec : {M : Type 1} → statement M
 lone-spec =
     tie.close
-    (tie.spec (λ c κs. search needs) returns (λ c κs. search needs) (λ c κs. search needs) returns-2 (λ c κs. search needs) (λ c κs. search needs) (λ c κs. search needs) returns-3 returns-4 (λ c κs. search needs) returns-5 (λ c κs. search needs) (λ c κs. search needs) returns-6 returns-7 (λ c κs. search needs) returns-8 returns-9)
+    (tie.spec (λ c κs. search needs) returns (λ c κs. search needs) (λ c κs. search needs) returns-2
+    (λ c κs. search needs) (λ c κs. search needs) (λ c κs. search needs) returns-3 returns-4 (λ c κs. search needs)
+    returns-5 (λ c κs. search needs) (λ c κs. search needs) returns-6 returns-7 (λ c κs. search needs) returns-8
+    returns-9)

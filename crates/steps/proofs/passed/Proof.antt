@@ -83,4 +83,10 @@ returns-11 c = let j = c .before in
 pub passed-spec : {M : Type 1} → statement M
 passed-spec =
     tie.close
-    (tie.spec (λ c κs. search needs) (λ c κs. search needs) returns (λ c κs. search needs) returns-2 (λ c κs. search needs) (λ c κs. search needs) returns-3 (λ c κs. search needs) (λ c κs. search needs) (λ c κs. search needs) returns-4 (λ c κs. search needs) (λ c κs. search needs) returns-5 (λ c κs. search needs) (λ c κs. search needs) (λ c κs. search needs) (λ c κs. search needs) returns-6 (λ c κs. search needs) (λ c κs. search needs) returns-7 (λ c κs. search needs) (λ c κs. search needs) (λ c κs. search needs) returns-8 (λ c κs. search needs) (λ c κs. search needs) returns-9 (λ c κs. search needs) returns-10 (λ c κs. search needs) returns-11)
+    (tie.spec (λ c κs. search needs) (λ c κs. search needs) returns (λ c κs. search needs) returns-2
+    (λ c κs. search needs) (λ c κs. search needs) returns-3 (λ c κs. search needs) (λ c κs. search needs)
+    (λ c κs. search needs) returns-4 (λ c κs. search needs) (λ c κs. search needs) returns-5 (λ c κs. search needs)
+    (λ c κs. search needs) (λ c κs. search needs) (λ c κs. search needs) returns-6 (λ c κs. search needs)
+    (λ c κs. search needs) returns-7 (λ c κs. search needs) (λ c κs. search needs) (λ c κs. search needs) returns-8
+    (λ c κs. search needs) (λ c κs. search needs) returns-9 (λ c κs. search needs) returns-10 (λ c κs. search needs)
+    returns-11)
