@@ -69,7 +69,7 @@ fn another_length_is_7() {
     for length in [4, 36, 44] {
         let packet = packet(0xe8, length);
         let refusal = ask::summary(Reading::Standard, &packet, 0).unwrap_err();
-        assert_eq!((refusal.number(), refusal.values()), (7, (40, length as u64)));
+        assert_eq!((refusal.number(), refusal.values()), (7, (40, length)));
         let mut portions = Portions::new();
         let told: Vec<_> = portions.feed(&packet).collect();
         assert_eq!(told.len(), 2, "{told:?}");
