@@ -8,7 +8,7 @@ use native.Mathlib.Omega.{arith}
 use lib.ListN.{length}
 use Rattle.def_refusals.specs.declared.Checked.{Checked}
 use Rattle.def_refusals.specs.declared.Checked.the-variants.{Fine, Unfit}
-use Rattle.def_questions.specs.Questions.{least3}
+use Rattle.def_portions.specs.Lists.{roomIn}
 use Rattle.def_portions.specs.declared.Event.{Event}
 use Rattle.def_dump.specs.EventLines.{eventLines}
 use Rattle.def_probe.specs.Requests.{endingOf}
@@ -51,31 +51,31 @@ module _ (st : Portions) (x : List ℕ) where
     given-in-range b = in-range-by (callFault st x room) b
 
 -- what a call left
-module _ {st : Portions} {x t u v : List ℕ} {r : Followed} {t1 u1 v1 : List ℕ}
-    (f : Following st x t u v r t1 u1 v1) (b : Bounded st) where
+module _ {st : Portions} {x t u v w : List ℕ} {r : Followed} {t1 u1 v1 w1 : List ℕ}
+    (f : Following st x t u v w r t1 u1 v1 w1) (b : Bounded st) where
   abbrev given : List Event
-  given = givenOf st x (least3 t u v)
+  given = givenOf st x (roomIn t u v w)
 
   counted : r .events ≡ length given
-  counted = ap (λ (a : Followed). a .events) (f .answer) ∙ given-count st x (least3 t u v)
+  counted = ap (λ (a : Followed). a .events) (f .answer) ∙ given-count st x (roomIn t u v w)
 
   -- the lists hold its events
-  pub listed : eventsIn t1 u1 v1 (r .events) ≡ given
+  pub listed : eventsIn t1 u1 v1 w1 (r .events) ≡ given
   listed =
-      let m = given-most st x (least3 t u v) in
+      let m = given-most st x (roomIn t u v w) in
       let p : r .events ≡ 0 + length given = omega (arith, counted) in
-      laid-back (given-in-range st x (least3 t u v) b) (omega (arith, m)) (omega (arith, m)) (omega (arith, m))
-      (record { tags = f .tags; numbers = f .numbers; values = f .values; past = p })
+      laid-back (given-in-range st x (roomIn t u v w) b) m
+      (record { tags = f .tags; numbers = f .numbers; values = f .values; sums = f .sums; past = p })
 
   -- the lines of what stands in the lists, and the line behind them
-  lines : eventLines (eventsIn t1 u1 v1 (r .events)) ++ endingOf (r .refusal) (length x) (r .events)
-      ≡ toldOf st x (least3 t u v)
+  lines : eventLines (eventsIn t1 u1 v1 w1 (r .events)) ++ endingOf (r .refusal) (length x) (r .events)
+      ≡ toldOf st x (roomIn t u v w)
   unfolding toldOf
   lines = rw (listed, counted, f .answer)
 
-  pub telling : {l m l1 : List ℕ} {at j k : ℕ} → Added l at (eventLines (eventsIn t1 u1 v1 (r .events))) m j
+  pub telling : {l m l1 : List ℕ} {at j k : ℕ} → Added l at (eventLines (eventsIn t1 u1 v1 w1 (r .events))) m j
       → Added m j (endingOf (r .refusal) (length x) (r .events)) l1 k
-      → Telling st x (least3 t u v) l at (record { state = r .state; taken = r .taken; at = k }) l1
+      → Telling st x (roomIn t u v w) l at (record { state = r .state; taken = r .taken; at = k }) l1
   telling p q =
       record {
         state = ap (λ (a : Followed). a .state) (f .answer);

@@ -52,8 +52,8 @@ fn one(
     at: usize,
 ) -> Told
     ensures { λ r. ⌜ Telling st (now (x .entry))
-        (roomIn (now (tags .entry)) (now (numbers .entry)) (now (values .entry)) (now (sums .entry))) (now (buf .entry)) at r
-        (now (buf .exit)) ⌝ }
+        (roomIn (now (tags .entry)) (now (numbers .entry)) (now (values .entry)) (now (sums .entry)))
+        (now (buf .entry)) at r (now (buf .exit)) ⌝ }
 {
     let r = portions::follow(st, x, tags, numbers, values, sums);
     let n = event_lines::event_lines(buf, at, tags, numbers, values, sums, r.events);
@@ -80,8 +80,8 @@ fn calls_into(
 ) -> usize
     requires { ⌜ n < 65536 ⌝ }
     ensures { λ r. ⌜ Added (now (buf .entry)) at
-        (callsText (roomIn (now (tags .entry)) (now (numbers .entry)) (now (values .entry)) (now (sums .entry))) [] (now (x .entry))
-        (sizesAt (now (p .entry)) 6 n)) (now (buf .exit)) r ⌝ }
+        (callsText (roomIn (now (tags .entry)) (now (numbers .entry)) (now (values .entry)) (now (sums .entry))) []
+        (now (x .entry)) (sizesAt (now (p .entry)) 6 n)) (now (buf .exit)) r ⌝ }
 {
     let mut st = steps::start();
     let mut from: usize = 0;

@@ -1,3 +1,3 @@
--- EventLineLaws (the lines of the events of three lists, as a loop goes through them).
+-- EventLineLaws (the lines of the events of four lists, as a loop goes through them).
 pub mod EventLineLaws
 pub mod Unique

@@ -123,8 +123,8 @@ pub fn event_lines(
     count: usize,
 ) -> usize
     ensures { λ r. ⌜ Added (now (buf .entry)) at
-        (eventLines (eventsIn (now (tags .entry)) (now (numbers .entry)) (now (values .entry)) (now (sums .entry)) count))
-        (now (buf .exit)) r ⌝ }
+        (eventLines (eventsIn (now (tags .entry)) (now (numbers .entry)) (now (values .entry)) (now (sums .entry))
+        count)) (now (buf .exit)) r ⌝ }
 {
     let stop = utils::lesser(
         count,

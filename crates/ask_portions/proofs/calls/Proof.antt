@@ -9,13 +9,14 @@ use Rattle.ask_portions.proofs.calls.Tie as tie
 
 returns : tie.Need-returns
 returns c =
-    let d = c .before .before .before .before .before in
-    let q = d .before .before .before .before .before in
+    let d = c .before .before .before .before .before .before in
+    let q = d .before .before .before .before .before .before in
     let n = q .before in
     let m = n .before in
-    reads (request-text _ _ _ _ _ _ (m .lesser .result) (n .u16-from-le-bytes .ensures)
-    (rw (m .before .u32-from-le-bytes .ensures) at (m .lesser .ensures))
-    (omega (arith, m .lesser .ensures)) (omega (arith, m .lesser .ensures)) (omega (arith, m .lesser .ensures))
+    let l = m .lesser .ensures in
+    reads (request-text _ _ _ _ _ _ _ (m .lesser .result) (n .u16-from-le-bytes .ensures)
+    (rw (m .before .u32-from-le-bytes .ensures) at l) (omega (arith, l)) (omega (arith, l)) (omega (arith, l))
+    (omega (arith, l))
     (q .part .ensures .0)) (d .calls-into .ensures)
 
 pub calls-spec : {M : Type 1} → statement M
@@ -24,4 +25,5 @@ calls-spec =
     (tie.spec (λ c κs. search needs) (λ c. search needs) (λ c κs. search needs) (λ c κs. search needs)
     (λ c. search needs) (λ c. search needs) (λ c. search needs) (λ c κs. search needs) (λ c. search needs)
     (λ c. search needs) (λ c. search needs) (λ c. search needs) (λ c. search needs) (λ c. search needs)
-    (λ c. search needs) (λ c. search needs) (λ c. search needs) (λ c κs. search needs) (λ c. search needs) returns)
+    (λ c. search needs) (λ c. search needs) (λ c. search needs) (λ c. search needs) (λ c. search needs)
+    (λ c. search needs) (λ c. search needs) (λ c κs. search needs) (λ c. search needs) returns)

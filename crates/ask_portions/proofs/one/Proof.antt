@@ -14,12 +14,12 @@ returns : tie.Need-returns
 returns c =
     let p = c .before .before in
     let q = p .before .before .before .before .before in
-    let f = q .before .before .before .before .before .before .before .before .before .before .before in
-    let s = f .before .before .before .before .before .before .before .before .before in
+    let f = q .before .before .before .before .before .before .before .before .before .before .before .before .before .before in
+    let s = f .before .before .before .before .before .before .before .before .before .before .before in
     telling (f .follow .ensures) (bounded s) (q .event-lines .ensures) (p .ending .ensures)
 
 pub one-spec : {M : Type 1} → statement M
 one-spec =
     tie.close
     (tie.spec (λ c κs. search needs) (λ c κs. search needs) (λ c κs. search needs) (λ c. search needs)
-    (λ c. search needs) (λ c. search needs) (λ c. search needs) returns)
+    (λ c. search needs) (λ c. search needs) (λ c. search needs) (λ c. search needs) returns)
