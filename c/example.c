@@ -1,5 +1,5 @@
 /* What a C program does with the library: the numbers of a packet in both readings, a packet written so that an old
- * reader is not misled, a call that is refused, and a packet that comes in portions. tools/foreign builds and runs it and compares what it prints with
+ * reader is not misled, a call that is refused, a summary, and a packet that comes in portions. tools/foreign builds and runs it and compares what it prints with
  * c/example.stdout. */
 #include <giunchemis.h>
 
@@ -13,7 +13,15 @@ static const uint8_t sample[24] = {
     0x00, 0x00, 0x00, 0x07, 0x00, 0x0a, 0x00, 0x0e, 0x40, 0x02, 0x40, 0x02,
 };
 
-/* The same block as a job list: the header record (sender 1, no padding), and a record of kind 1. All numbers are
+/* A Statistics Summary block: lost packets and TTL are there, duplicates and jitter are not, whatever their bytes are. */
+static const uint8_t summary[48] = {
+    0x80, 0xcf, 0x00, 0x0b, 0x00, 0x00, 0x00, 0x01, 0x06, 0x88, 0x00, 0x09,
+    0x00, 0x00, 0x00, 0x07, 0x00, 0x0a, 0x00, 0x0e, 0x00, 0x00, 0x00, 0x03, 0x00, 0x00, 0x00, 0x05,
+    0x00, 0x00, 0x00, 0x01, 0x00, 0x00, 0x00, 0x5a, 0x00, 0x00, 0x00, 0x0c, 0x00, 0x00, 0x00, 0x07,
+    0x3c, 0x40, 0x3e, 0x01,
+};
+
+/* The loss block as a job list: the header record (sender 1, no padding), and a record of kind 1. All numbers are
  * little-endian: the body's length (4), the kind (2), the body. */
 static const uint8_t job_list[] = {
     6, 0, 0, 0, 0, 0,   1, 0, 0, 0,   0, 0,
@@ -60,17 +68,19 @@ static int show(const char *name, uint8_t r, const uint8_t *packet, size_t packe
 /* Reads a packet that comes some bytes at a time, as from a serial line, and prints each number as soon as its bytes are
  * there. The packet itself is not kept: `state` is all that goes from call to call. */
 static int follow(const uint8_t *packet, size_t packet_len, size_t size) {
-    static uint64_t tags[XR_MOST_EVENTS], values[XR_MOST_EVENTS]; /* room for any byte's events */
+    static uint64_t tags[XR_MOST_EVENTS], values[XR_MOST_EVENTS], sums[3 * XR_MOST_EVENTS]; /* room for any byte's events */
     static uint16_t numbers[XR_MOST_EVENTS];
     xr_portions state = xr_portions_start();
 
     for (size_t at = 0; at < packet_len; at += size) {
         size_t given = packet_len - at < size ? packet_len - at : size;
         xr_flat_followed a = xr_follow(state, packet + at, given, tags, XR_MOST_EVENTS, numbers, XR_MOST_EVENTS, values,
-            XR_MOST_EVENTS);
+            XR_MOST_EVENTS, sums, 3 * XR_MOST_EVENTS);
         for (uint64_t i = 0; i < a.events; i++) {
             if ((tags[i] & 255) == 4)
                 printf("byte %zu: number %u\n", at + given, (unsigned)numbers[i]);
+            if ((tags[i] & 255) == 9 && (tags[i] >> 8 & XR_HAS_LOST))
+                printf("byte %zu: lost %" PRIu64 "\n", at + given, sums[3 * i] >> 32);
             if ((tags[i] & 255) == 8)
                 printf("byte %zu: end\n", at + given);
         }
@@ -108,6 +118,21 @@ int main(void) {
     if (!refused("block 3", xr_numbers(XR_STANDARD, sample, sizeof sample, 3, XR_LOSS, kept, 2)))
         return 1;
     printf("the lent list still holds %u %u\n", (unsigned)kept[0], (unsigned)kept[1]);
+
+    /* A summary: a number is there where its flag says so. In this one lost packets and TTL are. */
+    xr_flat_summary s = xr_summary(XR_STANDARD, summary, sizeof summary, 0);
+    if (s.code != 0)
+        return 1;
+    if (s.flags & XR_HAS_LOST)
+        printf("summary: lost %" PRIu32 "\n", s.lost);
+    if (!(s.flags & XR_HAS_JITTER))
+        printf("summary: no jitter\n");
+    if ((s.flags >> 3 & 3) == 1)
+        printf("summary: ttl %u to %u\n", (unsigned)s.hops_min, (unsigned)s.hops_max);
+    s = xr_summary(XR_CRATE, summary, sizeof summary, 0);
+    printf("summary in the crate's reading: refused %" PRIu32 " %" PRIu64 " %" PRIu64 "\n", s.code, s.first, s.second);
+    if (follow(summary, sizeof summary, 16))
+        return 1;
 
     /* The same packet in portions of two bytes; and one whose last block is cut short by its own length. */
     uint8_t bad[sizeof sample];

@@ -44,22 +44,48 @@ HOLDS(offsetof(xr_flat_block, length) == 16);
 HOLDS(offsetof(xr_flat_block, kind) == 20);
 HOLDS(offsetof(xr_flat_block, specific) == 21);
 
-HOLDS(sizeof(xr_known) == 24);
+HOLDS(sizeof(xr_flat_summary) == 64);
+HOLDS(offsetof(xr_flat_summary, code) == 0);
+HOLDS(offsetof(xr_flat_summary, first) == 8);
+HOLDS(offsetof(xr_flat_summary, second) == 16);
+HOLDS(offsetof(xr_flat_summary, ssrc) == 24);
+HOLDS(offsetof(xr_flat_summary, lost) == 28);
+HOLDS(offsetof(xr_flat_summary, duplicates) == 32);
+HOLDS(offsetof(xr_flat_summary, jitter_min) == 36);
+HOLDS(offsetof(xr_flat_summary, jitter_max) == 40);
+HOLDS(offsetof(xr_flat_summary, jitter_mean) == 44);
+HOLDS(offsetof(xr_flat_summary, jitter_deviation) == 48);
+HOLDS(offsetof(xr_flat_summary, begin) == 52);
+HOLDS(offsetof(xr_flat_summary, end) == 54);
+HOLDS(offsetof(xr_flat_summary, flags) == 56);
+HOLDS(offsetof(xr_flat_summary, hops_min) == 57);
+HOLDS(offsetof(xr_flat_summary, hops_max) == 58);
+HOLDS(offsetof(xr_flat_summary, hops_mean) == 59);
+HOLDS(offsetof(xr_flat_summary, hops_deviation) == 60);
+
+HOLDS(sizeof(xr_kept) == 32);
+HOLDS(offsetof(xr_kept, first) == 0);
+HOLDS(offsetof(xr_kept, second) == 8);
+HOLDS(offsetof(xr_kept, third) == 16);
+HOLDS(offsetof(xr_kept, fourth) == 24);
+
+HOLDS(sizeof(xr_known) == 56);
 HOLDS(offsetof(xr_known, announced) == 0);
 HOLDS(offsetof(xr_known, block) == 4);
 HOLDS(offsetof(xr_known, whose) == 8);
 HOLDS(offsetof(xr_known, next) == 12);
 HOLDS(offsetof(xr_known, inside) == 16);
+HOLDS(offsetof(xr_known, kept) == 24);
 
-HOLDS(sizeof(xr_portions) == 64);
+HOLDS(sizeof(xr_portions) == 96);
 HOLDS(offsetof(xr_portions, held) == 0);
 HOLDS(offsetof(xr_portions, missing) == 8);
 HOLDS(offsetof(xr_portions, rest) == 16);
 HOLDS(offsetof(xr_portions, behind) == 24);
 HOLDS(offsetof(xr_portions, known) == 32);
-HOLDS(offsetof(xr_portions, item) == 56);
+HOLDS(offsetof(xr_portions, item) == 88);
 
-HOLDS(sizeof(xr_flat_followed) == 104);
+HOLDS(sizeof(xr_flat_followed) == 136);
 HOLDS(offsetof(xr_flat_followed, code) == 0);
 HOLDS(offsetof(xr_flat_followed, first) == 8);
 HOLDS(offsetof(xr_flat_followed, second) == 16);

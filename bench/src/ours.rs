@@ -57,6 +57,7 @@ pub struct Known {
     pub whose: u32,
     pub next: u16,
     pub inside: usize,
+    pub kept: [u64; 4],
 }
 
 #[repr(C)]
@@ -95,7 +96,7 @@ extern "C" {
     fn xr_portions_start() -> Portions;
     fn xr_follow(
         state: Portions, bytes: *const u8, n: usize,
-        tags: *mut u64, a: usize, numbers: *mut u16, b: usize, values: *mut u64, c: usize,
+        tags: *mut u64, a: usize, numbers: *mut u16, b: usize, values: *mut u64, c: usize, sums: *mut u64, d: usize,
     ) -> FlatFollowed;
     fn xr_count(r: u8, s: *const u8, n: usize) -> Flat;
     fn xr_locate(r: u8, s: *const u8, n: usize, k: usize) -> Flat;
@@ -258,11 +259,14 @@ pub fn portions_start() -> Portions {
 }
 
 #[inline]
-pub fn follow(state: Portions, x: &[u8], tags: &mut [u64], numbers: &mut [u16], values: &mut [u64]) -> FlatFollowed {
+pub fn follow(
+    state: Portions, x: &[u8], tags: &mut [u64], numbers: &mut [u16], values: &mut [u64], sums: &mut [u64],
+) -> FlatFollowed {
     unsafe {
         xr_follow(
             state, x.as_ptr(), x.len(),
             tags.as_mut_ptr(), tags.len(), numbers.as_mut_ptr(), numbers.len(), values.as_mut_ptr(), values.len(),
+            sums.as_mut_ptr(), sums.len(),
         )
     }
 }

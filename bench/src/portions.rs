@@ -9,6 +9,7 @@ pub struct Lists {
     pub tags: Vec<u64>,
     pub numbers: Vec<u16>,
     pub values: Vec<u64>,
+    pub sums: Vec<u64>,
     pub words: [Vec<u32>; 3],
 }
 
@@ -18,6 +19,7 @@ impl Lists {
             tags: vec![0; room],
             numbers: vec![0; room],
             values: vec![0; room],
+            sums: vec![0; 3 * room],
             words: [vec![0; room], vec![0; room], vec![0; room]],
         }
     }
@@ -59,7 +61,7 @@ pub fn whole(s: &[u8], l: &mut Lists) -> usize {
 pub fn followed(s: &[u8], size: usize, l: &mut Lists) -> usize {
     let (mut state, mut events): (Portions, usize) = (ours::portions_start(), 0);
     for x in s.chunks(size) {
-        let a: FlatFollowed = ours::follow(state, x, &mut l.tags, &mut l.numbers, &mut l.values);
+        let a: FlatFollowed = ours::follow(state, x, &mut l.tags, &mut l.numbers, &mut l.values, &mut l.sums);
         state = a.state;
         events += a.events as usize;
     }

@@ -204,7 +204,7 @@ pub trait XrBlockStaticType {
 
 /// A record that can be had of a block ([`XrBlock::parse_into`]).
 ///
-/// A program can implement it for types of its own. The library knows types 1 to 5; of other blocks
+/// A program can implement it for types of its own. The library knows types 1 to 6; of other blocks
 /// [`XrBlock::data`] has the bytes, unchecked.
 pub trait XrBlockParser<'a>: XrBlockStaticType + Sized {
     /// The record of a block, or why there is none.

@@ -116,9 +116,31 @@ fn listed(block: &[u8], clear: usize) -> Result<Vec<(usize, Event)>, second::No>
                 events.push((16 + 12 * i, Event::Entry(entry(e))));
             }
         }
+        6 => events.extend([(4, start(None)), (40, Event::Summary(summary(block)?))]),
         _ => events.push((4, start(None))),
     }
     Ok(events)
+}
+
+/// What a summary shows, by the second implementation.
+fn summary(block: &[u8]) -> Result<Summary, second::No> {
+    let (lost, duplicates, jitter, toh, four) = second::sums(block)?;
+    let be16 = |at: usize| u16::from_be_bytes([block[at], block[at + 1]]);
+    let four = four.map(|[min, max, mean, deviation]| Spread { min, max, mean, deviation });
+    Ok(Summary {
+        media_ssrc: u32::from_be_bytes([block[4], block[5], block[6], block[7]]),
+        begin: be16(8),
+        end: be16(10),
+        lost,
+        duplicates,
+        jitter: jitter.map(|[min, max, mean, deviation]| Spread { min, max, mean, deviation }),
+        hops: match (toh, four) {
+            (0, None) => Hops::Absent,
+            (1, Some(four)) => Hops::Ttl(four),
+            (2, Some(four)) => Hops::HopLimit(four),
+            _ => Hops::Unknown,
+        },
+    })
 }
 
 /// The entry that a builder's block has when it is read.
@@ -134,9 +156,9 @@ const PATTERN: (u64, u16, u64) = (0xdead_beef_dead_beef, 0x5aa5, 0xfeed_f00d_fee
 
 /// One call after another, with seeded sizes and rooms, each held to the course of all the bytes; lent lists are looked
 /// at whole.
-fn divided(s: &[u8], random: &mut Random, seen: &mut [usize; 20]) {
+fn divided(s: &[u8], random: &mut Random, seen: &mut [usize; 20]) -> usize {
     let c = course(s);
-    let (mut state, mut taken, mut told, mut stays) = (portions_start(), 0, 0, None);
+    let (mut state, mut taken, mut told, mut stays, mut summaries) = (portions_start(), 0, 0, None, 0);
     for _ in 0..60 {
         let size = random.of(&[0, 1, 1, 2, 3, 5, 8, 20, s.len() - taken]).min(s.len() - taken);
         let room = random.of(&[0, 1, 2, 5, 40, 20_000]);
@@ -157,7 +179,15 @@ fn divided(s: &[u8], random: &mut Random, seen: &mut [usize; 20]) {
         let mut tags = vec![PATTERN.0; room];
         let mut numbers = vec![PATTERN.1; room + random.below(2)];
         let mut values = vec![PATTERN.2; room + random.below(3)];
-        let a = follow(state, &s[taken..upto], &mut tags, &mut numbers, &mut values);
+        let mut sums = vec![PATTERN.2; 3 * room + random.below(4)];
+        if room > 0 && random.one_in(8) {
+            // the fourth list is the shortest: one number less than it takes for so many events
+            tags.push(PATTERN.0);
+            numbers.resize(room + 1, PATTERN.1);
+            values.resize(room + 1, PATTERN.2);
+            sums.resize(3 * room + 2, PATTERN.2);
+        }
+        let a = follow(state, &s[taken..upto], &mut tags, &mut numbers, &mut values, &mut sums);
         assert_eq!((a.taken, a.events, a.refusal.map(numbers_of)), wanted, "{:x?} at {} with {}", s, taken, size);
         if let Some(no) = wanted.2 {
             seen[no.0 as usize] += 1;
@@ -172,31 +202,37 @@ fn divided(s: &[u8], random: &mut Random, seen: &mut [usize; 20]) {
                 assert_eq!((parts.1.unwrap_or(PATTERN.1), parts.2), (PATTERN.1, PATTERN.2));
                 continue;
             }
-            assert_eq!(Event::from_parts(parts.0.unwrap(), parts.1.unwrap(), parts.2), new[i]);
+            let three = [sums[3 * i], sums[3 * i + 1], sums[3 * i + 2]];
+            assert_eq!(Event::from_parts(parts.0.unwrap(), parts.1.unwrap(), parts.2, three), new[i]);
             // what an event does not have is left
             let has_number = matches!(new[i], Event::Number(_) | Event::Pair(..));
             let has_value = !matches!(new[i], Event::Number(_) | Event::End | Event::Start { fields: None, .. });
             assert!((has_number || parts.1 == Some(PATTERN.1)) && (has_value || parts.2 == PATTERN.2));
+            assert!(matches!(new[i], Event::Summary(_)) || three == [PATTERN.2; 3]);
+            summaries += usize::from(matches!(new[i], Event::Summary(_)));
         }
+        assert!(sums[3 * a.events..].iter().all(|x| *x == PATTERN.2));
         state = a.state;
         taken += a.taken;
         told += a.events;
     }
+    summaries
 }
 
 #[test]
 fn calls_on_seeded_packets() {
-    let (mut random, mut seen) = (Random::new(15), [0; 20]);
+    let (mut random, mut seen, mut summaries) = (Random::new(15), [0; 20], 0);
     for _ in 0..4000 {
         let mut s = packet(&mut random);
         if random.one_in(6) {
             s.extend_from_slice(&[0x40; 7][..random.below(8)]);
         }
-        divided(&s, &mut random, &mut seen);
+        summaries += divided(&s, &mut random, &mut seen);
     }
     for number in [1, 2, 3, 18, 19, 11, 6, 7] {
         assert!(seen[number] > 100, "refusal {} came {} times", number, seen[number]);
     }
+    assert!(summaries > 100, "{} summaries came", summaries);
 }
 
 #[test]
@@ -260,17 +296,20 @@ fn more_events_than_room() {
     // the byte with the most events: a run of 16,383 and the end
     let loss = LossRle::builder().begin(0).end(0).add_words(&[0, 0x7fff]);
     let s = Xr::builder().add_block(loss).plain().unwrap();
-    let before = follow(portions_start(), &s[..s.len() - 1], &mut [0; 9], &mut [0; 9], &mut [0; 9]);
+    let before = follow(portions_start(), &s[..s.len() - 1], &mut [0; 9], &mut [0; 9], &mut [0; 9], &mut [0; 27]);
     assert_eq!((before.taken, before.refusal), (s.len() - 1, None));
     let (mut tags, mut numbers, mut values) = (vec![0; MOST_EVENTS], vec![0; MOST_EVENTS], vec![0; MOST_EVENTS]);
-    let last = follow(before.state, &s[s.len() - 1..], &mut tags, &mut numbers, &mut values);
+    let mut sums = vec![0; 3 * MOST_EVENTS];
+    let last = follow(before.state, &s[s.len() - 1..], &mut tags, &mut numbers, &mut values, &mut sums);
     assert_eq!((last.events, last.refusal), (MOST_EVENTS, None));
-    let short = follow(before.state, &s[s.len() - 1..], &mut tags[1..], &mut numbers, &mut values);
+    let short = follow(before.state, &s[s.len() - 1..], &mut tags[1..], &mut numbers, &mut values, &mut sums);
+    assert_eq!(short.refusal, Some(Refusal::NoRoom { needed: MOST_EVENTS, lent: MOST_EVENTS - 1 }));
+    let short = follow(before.state, &s[s.len() - 1..], &mut tags, &mut numbers, &mut values, &mut sums[1..]);
     assert_eq!(short.refusal, Some(Refusal::NoRoom { needed: MOST_EVENTS, lent: MOST_EVENTS - 1 }));
     assert_eq!(short.state, before.state);
 }
 
 #[test]
-fn the_state_has_64_bytes() {
-    assert_eq!(std::mem::size_of::<ask::PortionState>(), 64);
+fn the_state_has_96_bytes() {
+    assert_eq!(std::mem::size_of::<ask::PortionState>(), 96);
 }

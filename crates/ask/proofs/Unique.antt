@@ -5,6 +5,7 @@ use contract.Lifetimes.{Lfts}
 use Rattle.laws.proofs.Determined.{Fixes}
 use Rattle.ask.proofs.fields.Reads as fields
 use Rattle.ask.proofs.time.Reads as time
+use Rattle.ask.proofs.summed.Reads as summed
 use Rattle.ask.proofs.parsed.Reads as parsed
 use Rattle.ask.proofs.viewed.Reads as viewed
 use Rattle.ask.proofs.written.Reads as written
@@ -21,6 +22,12 @@ time-unique κs a r₁ r₂ s₁ s₂ p q = p .place ∙ sym (q .place)
 
 pub time-unique-buf : (κs : Lfts 2) → Fixes (time.Post κs) (λ r s. s .1 .1 .1 .0 .now)
 time-unique-buf κs a r₁ r₂ s₁ s₂ p q = p .held ∙ sym (q .held)
+
+pub summed-unique : (κs : Lfts 2) → Fixes (summed.Post κs) (λ r s. r)
+summed-unique κs a r₁ r₂ s₁ s₂ p q = p .place ∙ sym (q .place)
+
+pub summed-unique-buf : (κs : Lfts 2) → Fixes (summed.Post κs) (λ r s. s .1 .1 .1 .0 .now)
+summed-unique-buf κs a r₁ r₂ s₁ s₂ p q = p .held ∙ sym (q .held)
 
 pub parsed-unique : (κs : Lfts 2) → Fixes (parsed.Post κs) (λ r s. r)
 parsed-unique κs a r₁ r₂ s₁ s₂ p q = p .place ∙ sym (q .place)

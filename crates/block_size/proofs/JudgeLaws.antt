@@ -3,8 +3,8 @@
 --     fields-are           what it says of a body
 --     words-short, ..      the tests of a body of words in turn
 --     sums-other, ..       the tests of a summary's body in turn
---     block-words, ..      `isBlockJob` by the record's kind
---     good-words           what it says of a body of words
+--     good-words           what they say of it
+--     block-as             `isBlockJob` by the record's kind
 use Prim.Native.Nat.{ℕ, _-_, _%_, _≤_, _<_}
 use mathlib.Core.Path.{_≡_, ap, _∙_}
 use mathlib.Core.Bool.{Bool, true, false, not}
@@ -15,13 +15,10 @@ use lib.Seq.{take-all}
 use lib.Dec.{leb, eqb}
 use borrow.Author.Tests.{le-leb, lt-leb, leb-true, eqb-true, eq-eqb, ne-eqb}
 use Rattle.laws.proofs.Tests.{and-true}
-use Rattle.def_wire.specs.declared.Rle.{Rle}
-use Rattle.def_wire.specs.declared.Ranged.the-variants.{Chunks, Times}
-use Rattle.def_wire.specs.declared.Kind.the-variants.{Spans, Clock, Echoes, Statistics}
-use Rattle.def_wire.specs.declared.KindOr.the-variants.{AKind, NoKind}
+use Rattle.def_wire.specs.declared.KindOr.{KindOr}
 use Rattle.def_wire.specs.Block.{lostRun, has, kindOf}
 use Rattle.def_wire.specs.Bytes.{byteAt}
-use Rattle.def_jobs.specs.Jobs.{Job, le16, low16, jobFlags, hasFields, isFlags, hasSums, isBlockJob}
+use Rattle.def_jobs.specs.Jobs.{Job, le16, low16, jobFlags, hasFields, isFlags, hasSums, isBody, isBlockJob}
 use Rattle.block_size.specs.Judged.{Fielded, hasWords}
 
 module _ (j : Job) where
@@ -60,29 +57,9 @@ module _ (j : Job) where
     pub sums-flags : byteAt (j .body) 1 ≡ 0 → isFlags (jobFlags j) ≡ hasSums j
     sums-flags z = rw (eq-eqb _ _ h, eq-eqb _ _ z)
 
-  pub block-words : (a : Rle) → kindOf (j .kind) ≡ AKind (Spans (Chunks a)) → isBlockJob j ≡ hasWords j
-  unfolding isBlockJob
-  block-words a e = rw e
-
   pub good-words : hasWords j ≡ true → Fielded (j .body) 2
   good-words e = fields-are 2 (and-true (hasFields j 2) _ e .0)
 
-  pub block-times : kindOf (j .kind) ≡ AKind (Spans Times) → isBlockJob j ≡ hasFields j 4
+  pub block-as : {k : KindOr} → kindOf (j .kind) ≡ k → isBlockJob j ≡ isBody k j
   unfolding isBlockJob
-  block-times e = rw e
-
-  pub block-clock : kindOf (j .kind) ≡ AKind Clock → isBlockJob j ≡ eqb (length (j .body)) 8
-  unfolding isBlockJob
-  block-clock e = rw e
-
-  pub block-echoes : kindOf (j .kind) ≡ AKind Echoes → isBlockJob j ≡ eqb (length (j .body) % 12) 0
-  unfolding isBlockJob
-  block-echoes e = rw e
-
-  pub block-sums : kindOf (j .kind) ≡ AKind Statistics → isBlockJob j ≡ hasSums j
-  unfolding isBlockJob
-  block-sums e = rw e
-
-  pub block-none : kindOf (j .kind) ≡ NoKind → isBlockJob j ≡ false
-  unfolding isBlockJob
-  block-none e = rw e
+  block-as e = ap (λ (k : KindOr). isBody k j) e

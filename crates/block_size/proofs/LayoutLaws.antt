@@ -1,9 +1,10 @@
 -- How long a block is. Assumes nothing.
---     length-block-*          a block's length by its kind
+--     as-words, ..            a block's length by its kind, where it has more than numbers of a fixed count
+--     length-block            it is that of the record's kind
 --     block-fits              a good record's block is no longer than the record
 --     block-least             and has at least its four header bytes
 use Prim.Native.Nat.{ℕ, _+_, _*_, _-_, _/_, _≤_}
-use mathlib.Core.Path.{_≡_, refl}
+use mathlib.Core.Path.{_≡_, refl, ap}
 use mathlib.Core.Bool.{true}
 use native.Mathlib.Omega.{arith}
 use lib.ListN.{length, replicate, length-append, length-replicate}
@@ -25,7 +26,7 @@ use Rattle.block_size.proofs.ZerosLaws.{length-words, length-times, zer
 
 -- so many bytes a block has by its kind
 module _ (layout : Layout) (j : Job) where
-  as-words : (a : Rle) → length (bytesAs (AKind (Spans (Chunks a))) layout j)
+  pub as-words : (a : Rle) → length (bytesAs (AKind (Spans (Chunks a))) layout j)
       ≡ 12 + (length (j .body) - 10) / 2 * 2 + zerosBehind layout (jobWords j) * 2
   as-words a =
       omega (
@@ -36,38 +37,15 @@ module _ (layout : Layout) (j : Job) where
         length-words j,
       )
 
-  as-times : length (bytesAs (AKind (Spans Times)) layout j) ≡ 12 + (length (j .body) - 10) / 4 * 4
+  pub as-times : length (bytesAs (AKind (Spans Times)) layout j) ≡ 12 + (length (j .body) - 10) / 4 * 4
   as-times = omega (arith, length-bytesOf four 4 (λ x. refl) (jobTimes j), length-times j)
 
-  as-echoes : length (bytesAs (AKind Echoes) layout j) ≡ 4 + length (j .body) / 4 * 4
+  pub as-echoes : length (bytesAs (AKind Echoes) layout j) ≡ 4 + length (j .body) / 4 * 4
   as-echoes = omega (arith, length-bytesOf four 4 (λ x. refl) (low32 (j .body)), length-low32 (j .body))
 
-  pub length-block-words : (a : Rle) → kindOf (j .kind) ≡ AKind (Spans (Chunks a)) → length (blockBytes layout j)
-      ≡ 12 + (length (j .body) - 10) / 2 * 2 + zerosBehind layout (jobWords j) * 2
+  pub length-block : {k : KindOr} → kindOf (j .kind) ≡ k → length (blockBytes layout j) ≡ length (bytesAs k layout j)
   unfolding blockBytes
-  length-block-words a e = rw e (as-words a)
-
-  pub length-block-times : kindOf (j .kind) ≡ AKind (Spans Times)
-      → length (blockBytes layout j) ≡ 12 + (length (j .body) - 10) / 4 * 4
-  unfolding blockBytes
-  length-block-times e = rw e as-times
-
-  pub length-block-clock : kindOf (j .kind) ≡ AKind Clock → length (blockBytes layout j) ≡ 12
-  unfolding blockBytes
-  length-block-clock e = rw e
-
-  pub length-block-echoes : kindOf (j .kind) ≡ AKind Echoes
-      → length (blockBytes layout j) ≡ 4 + length (j .body) / 4 * 4
-  unfolding blockBytes
-  length-block-echoes e = rw e as-echoes
-
-  pub length-block-sums : kindOf (j .kind) ≡ AKind Statistics → length (blockBytes layout j) ≡ 40
-  unfolding blockBytes
-  length-block-sums e = rw e
-
-  pub length-block-none : kindOf (j .kind) ≡ NoKind → length (blockBytes layout j) ≡ 0
-  unfolding blockBytes
-  length-block-none e = rw e
+  length-block e = ap (λ (k : KindOr). length (bytesAs k layout j)) e
 
 body-fits : (k : KindOr) (layout : Layout) (j : Job) → isBody k j ≡ true
     → length (bytesAs k layout j) ≤ 6 + length (j .body)

@@ -122,7 +122,8 @@ module _ (r : Reading) (v : List ℕ) where
   unfolding numbersShown
   numbers-fine a l = on-fine (checkOf r (Spans (Chunks a)) v) (numbersIn r v) l
 
-  pub pairs-fine : (l : List Receipt) → pairsShown r v ≡ shown l → (checkOf r (Spans Times) v ≡ Fine) × (pairsIn r v ≡ l)
+  pub pairs-fine : (l : List Receipt) → pairsShown r v ≡ shown l
+      → (checkOf r (Spans Times) v ≡ Fine) × (pairsIn r v ≡ l)
   unfolding pairsShown
   pairs-fine l = on-fine (checkOf r (Spans Times) v) (pairsIn r v) l
 

@@ -1,10 +1,14 @@
 // The lines of events (RULES, "Packets in portions"). The text goes through a lent buffer, as print's functions do,
 // and each function promises that it has added exactly its text (def_dump/specs/EventLines.antt).
+ghost use mathlib.Core.Path.{_≡_};
 ghost use mathlib.Core.List.{_++_};
+ghost use Prim.Native.Nat.{_<_};
 ghost use Rattle.def_text.specs.Buffer.{Added};
 ghost use Rattle.def_text.specs.Numerals.{labelled, spaced, lineEnd};
 ghost use Rattle.def_dump.specs.EventLines.{eventLine, eventLines};
+ghost use Rattle.def_portions.specs.Lists.{roomIn};
 ghost use Rattle.event_lists.specs.Parts.{eventsIn};
+ghost use Rattle.event_lines.specs.At.{eventAt};
 use def_portions::Event;
 use def_standard::Echo;
 use def_wire::Fields;
@@ -92,6 +96,22 @@ pub fn event_line(buf: &mut [u8], at: usize, e: Event) -> usize
     }
 }
 
+// The event at an index of four lists.
+fn event_at(tags: &[u64], numbers: &[u16], values: &[u64], sums: &[u64], i: usize) -> Event
+    requires { ⌜ i < roomIn (now tags) (now numbers) (now values) (now sums) ⌝ }
+    ensures { λ r. ⌜ r ≡ eventAt (now (tags .entry)) (now (numbers .entry)) (now (values .entry)) (now (sums .entry)) i ⌝ }
+{
+    let three = 3 * i;
+    event_lists::event_of(
+        tags[i],
+        numbers[i],
+        values[i],
+        sums[three],
+        sums[three + 1],
+        sums[three + 2],
+    )
+}
+
 // The lines of the first so many events of four lists.
 pub fn event_lines(
     buf: &mut [u8],
@@ -109,25 +129,14 @@ pub fn event_lines(
     let stop = utils::lesser(
         count,
         utils::lesser(
-            utils::lesser(tags.len(), utils::lesser(numbers.len(), values.len())),
+            utils::lesser(utils::lesser(tags.len(), numbers.len()), values.len()),
             sums.len() / 3,
         ),
     );
     let mut to = at;
     let mut i: usize = 0;
     while i < stop {
-        to = event_line(
-            buf,
-            to,
-            event_lists::event_of(
-                tags[i],
-                numbers[i],
-                values[i],
-                sums[3 * i],
-                sums[3 * i + 1],
-                sums[3 * i + 2],
-            ),
-        );
+        to = event_line(buf, to, event_at(tags, numbers, values, sums, i));
         i += 1;
     }
     to

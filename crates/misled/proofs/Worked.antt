@@ -4,7 +4,7 @@
 --     Words, words-hold               types 1 and 2
 --     OfTimes, times-hold             type 3
 --     Entries, entries-hold           type 5
---     Others, others-hold             clocks, and records that ask for no block
+--     Others, others-hold             clocks, summaries, and records that ask for no block
 --     First, first-hold               15 with the first of several records, and what stands behind each
 use Prim.Native.Nat.{ℕ, _*_, _/_, _%_}
 use mathlib.Core.Path.{_≡_, refl}
@@ -81,32 +81,47 @@ pub entries-hold : Entries
 unfolding rleOf rangedOf kindOf isBlockJob misledEchoes misledBy
 entries-hold = record { one = (refl, refl); two = refl; five = refl }
 
--- a clock misleads nobody; nor does a record that is bad, though a good one of its kind would: 13 bytes of entries, a
--- thinning of 16, an odd byte of words, a kind that no block has
+-- a clock misleads nobody, and neither does a summary; nor does a record that is bad, though a good one of its kind
+-- would: 13 bytes of entries, a thinning of 16, an odd byte of words, a kind that no block has
 pub record Others : Type 0 where
   pub clock : misledBy (jobOf 4 (replicate 8 0)) 12 ≡ false
+  pub summary : misledBy (jobOf 6 (replicate 38 0)) 12 ≡ false
   pub bad-entries : misledBy (jobOf 5 (replicate 13 0)) 12 ≡ false
   pub bad-thinning : loss 10 12 16 (16386 ∷ 16385 ∷ []) ≡ false
   pub bad-words : misledBy (jobOf 1 (low (7 ∷ 0 ∷ 10 ∷ 12 ∷ 0 ∷ 16386 ∷ 16385 ∷ []) ++ (0 ∷ []))) 0 ≡ false
-  pub no-kind : misledBy (jobOf 6 (replicate 12 0)) 12 ≡ false
+  pub no-kind : misledBy (jobOf 7 (replicate 12 0)) 12 ≡ false
 
 pub others-hold : Others
 unfolding rleOf rangedOf kindOf isBlockJob misledEchoes misledBy
-others-hold = record { clock = refl; bad-entries = refl; bad-thinning = refl; bad-words = refl; no-kind = refl }
+others-hold =
+    record {
+      clock = refl;
+      summary = refl;
+      bad-entries = refl;
+      bad-thinning = refl;
+      bad-words = refl;
+      no-kind = refl;
+    }
 
--- one entry, a clock of 12 bytes, and an entry that stands last
+-- one entry, a clock of 12 bytes, and a summary of 40
 abbrev pub echo : Job
 echo = jobOf 5 (replicate 12 0)
 
 abbrev pub clock : Job
 clock = jobOf 4 (replicate 8 0)
 
+abbrev pub summary : Job
+summary = jobOf 6 (replicate 38 0)
+
 pub record First : Type 0 where
   pub none : misledFault 0 (clock ∷ clock ∷ echo ∷ []) ≡ Fine
   pub second : misledFault 0 (clock ∷ echo ∷ clock ∷ []) ≡ Unfit (Misleads 1)
+  -- a summary's bytes count behind an entry, and nothing behind a summary does
+  pub behind : misledFault 0 (echo ∷ summary ∷ []) ≡ Unfit (Misleads 0)
+  pub before : misledFault 0 (summary ∷ echo ∷ []) ≡ Fine
   -- the first of two; counted from the given index on
   pub first : misledFault 3 (echo ∷ echo ∷ clock ∷ []) ≡ Unfit (Misleads 3)
 
 pub first-hold : First
 unfolding rleOf rangedOf kindOf isBlockJob misledEchoes misledBy misledFault pairLow blockBytes blocksBytes
-first-hold = record { none = refl; second = refl; first = refl }
+first-hold = record { none = refl; second = refl; behind = refl; before = refl; first = refl }

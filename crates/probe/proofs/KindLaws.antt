@@ -19,7 +19,7 @@ use Rattle.def_jobs.specs.Jobs.{le16, le32}
 use Rattle.def_probe.specs.Requests.{told, cut, readingFirst, chunkAsked, fieldsTold, timeTold, shownText, madeText}
 use Rattle.def_probe.specs.Requests.{numbersText, pairsText, entriesText, typedReply, dumpReply, listReply, shownReply}
 use Rattle.def_probe.specs.Requests.{stretchReply, writtenReply, madeReply, parsedReply, wordsReply, marksReply}
-use Rattle.def_probe.specs.Requests.{viewReply, portionsText, portionsReply, numbersReply, answerTo}
+use Rattle.def_probe.specs.Requests.{viewReply, portionsText, portionsReply, summaryReply, numbersReply, answerTo}
 use Rattle.probe.specs.Replied.{beginsWell}
 use Rattle.probe.proofs.ReplyLaws.{begun}
 
@@ -163,16 +163,20 @@ module _ (kind : ℕ) (p : List ℕ) where
   unfolding answerTo
   kind-12 e = rw e
 
+  pub kind-13 : kind ≡ 13 → summaryReply p ≡ answerTo kind p
+  unfolding answerTo
+  kind-13 e = rw e
+
   pub kind-14 : kind ≡ 14 → numbersReply p ≡ answerTo kind p
   unfolding answerTo
   kind-14 e = rw e
 
   pub kind-other : (kind ≡ 1 → ⊥) → (kind ≡ 2 → ⊥) → (kind ≡ 3 → ⊥) → (kind ≡ 4 → ⊥)
       → (kind ≡ 5 → ⊥) → (kind ≡ 6 → ⊥) → (kind ≡ 7 → ⊥) → (kind ≡ 8 → ⊥) → (kind ≡ 9 → ⊥)
-      → (kind ≡ 10 → ⊥) → (kind ≡ 11 → ⊥) → (kind ≡ 12 → ⊥) → (kind ≡ 14 → ⊥)
+      → (kind ≡ 10 → ⊥) → (kind ≡ 11 → ⊥) → (kind ≡ 12 → ⊥) → (kind ≡ 13 → ⊥) → (kind ≡ 14 → ⊥)
       → cut ≡ answerTo kind p
   unfolding answerTo
-  kind-other a b d e f g h i j k l m n =
+  kind-other a b d e f g h i j k l m n o =
       rw (
         ne-eqb _ _ a,
         ne-eqb _ _ b,
@@ -187,4 +191,5 @@ module _ (kind : ℕ) (p : List ℕ) where
         ne-eqb _ _ l,
         ne-eqb _ _ m,
         ne-eqb _ _ n,
+        ne-eqb _ _ o,
       )

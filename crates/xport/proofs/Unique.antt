@@ -22,6 +22,8 @@ use Rattle.xport.proofs.xr_follow.Reads as xr-follow
 use Rattle.xport.proofs.xr_parse.Reads as xr-parse
 use Rattle.xport.proofs.xr_block_at.Reads as xr-block-at
 use Rattle.xport.proofs.xr_fields_view.Reads as xr-fields-view
+use Rattle.xport.proofs.xr_summary_view.Reads as xr-summary-view
+use Rattle.xport.proofs.xr_summary.Reads as xr-summary
 use Rattle.xport.proofs.xr_time_view.Reads as xr-time-view
 use Rattle.xport.proofs.xr_words_view.Reads as xr-words-view
 use Rattle.xport.proofs.xr_pairs_view.Reads as xr-pairs-view
@@ -113,16 +115,16 @@ xr-cursor-unique-out κs a r₁ r₂ s₁ s₂ p q = p .filled ∙ sym (q .fille
 pub xr-portions-start-unique : (κs : Lfts 0) → Fixes (xr-portions-start.Post κs) (λ r s. r)
 xr-portions-start-unique κs a r₁ r₂ s₁ s₂ p q = p ∙ sym q
 
-pub xr-follow-unique : (κs : Lfts 4) → Fixes (xr-follow.Post κs) (λ r s. r)
+pub xr-follow-unique : (κs : Lfts 5) → Fixes (xr-follow.Post κs) (λ r s. r)
 xr-follow-unique κs a r₁ r₂ s₁ s₂ p q = p .answer ∙ sym (q .answer)
 
-pub xr-follow-unique-tags : (κs : Lfts 4) → Fixes (xr-follow.Post κs) (λ r s. s .1 .1 .0 .now)
+pub xr-follow-unique-tags : (κs : Lfts 5) → Fixes (xr-follow.Post κs) (λ r s. s .1 .1 .0 .now)
 xr-follow-unique-tags κs a r₁ r₂ s₁ s₂ p q = p .tags ∙ sym (q .tags)
 
-pub xr-follow-unique-numbers : (κs : Lfts 4) → Fixes (xr-follow.Post κs) (λ r s. s .1 .1 .1 .0 .now)
+pub xr-follow-unique-numbers : (κs : Lfts 5) → Fixes (xr-follow.Post κs) (λ r s. s .1 .1 .1 .0 .now)
 xr-follow-unique-numbers κs a r₁ r₂ s₁ s₂ p q = p .numbers ∙ sym (q .numbers)
 
-pub xr-follow-unique-values : (κs : Lfts 4) → Fixes (xr-follow.Post κs) (λ r s. s .1 .1 .1 .1 .0 .now)
+pub xr-follow-unique-values : (κs : Lfts 5) → Fixes (xr-follow.Post κs) (λ r s. s .1 .1 .1 .1 .0 .now)
 xr-follow-unique-values κs a r₁ r₂ s₁ s₂ p q = p .values ∙ sym (q .values)
 
 pub xr-parse-unique : (κs : Lfts 1) → Fixes (xr-parse.Post κs) (λ r s. r)
@@ -133,6 +135,12 @@ xr-block-at-unique κs a r₁ r₂ s₁ s₂ p q = p ∙ sym q
 
 pub xr-fields-view-unique : (κs : Lfts 1) → Fixes (xr-fields-view.Post κs) (λ r s. r)
 xr-fields-view-unique κs a r₁ r₂ s₁ s₂ p q = p ∙ sym q
+
+pub xr-summary-view-unique : (κs : Lfts 1) → Fixes (xr-summary-view.Post κs) (λ r s. r)
+xr-summary-view-unique κs a r₁ r₂ s₁ s₂ p q = p ∙ sym q
+
+pub xr-summary-unique : (κs : Lfts 1) → Fixes (xr-summary.Post κs) (λ r s. r)
+xr-summary-unique κs a r₁ r₂ s₁ s₂ p q = p ∙ sym q
 
 pub xr-time-view-unique : (κs : Lfts 1) → Fixes (xr-time-view.Post κs) (λ r s. r)
 xr-time-view-unique κs a r₁ r₂ s₁ s₂ p q = p ∙ sym q

@@ -64,7 +64,7 @@ pub fn range(random: &mut Random) -> (u16, u16, u8) {
 }
 
 fn block(random: &mut Random) -> Vec<u8> {
-    let kind = random.of(&[1u8, 1, 2, 2, 3, 3, 4, 5, 5, 6, 0, 255]);
+    let kind = random.of(&[1u8, 1, 2, 2, 3, 3, 4, 5, 5, 6, 6, 0, 255]);
     let mut body = Vec::new();
     let (begin, end, thinning) = range(random);
     if kind <= 3 {
@@ -77,6 +77,7 @@ fn block(random: &mut Random) -> Vec<u8> {
         3 => (0..random.below(6)).for_each(|_| body.extend_from_slice(&(random.next() as u32).to_be_bytes())),
         4 => body.extend_from_slice(&random.next().to_be_bytes()),
         5 => (0..3 * random.below(6)).for_each(|_| body.extend_from_slice(&(random.next() as u32).to_be_bytes())),
+        6 => (0..9).for_each(|_| body.extend_from_slice(&(random.next() as u32).to_be_bytes())),
         _ => (0..random.below(4)).for_each(|_| body.extend_from_slice(&[kind; 4])),
     }
     if random.one_in(8) {
@@ -87,7 +88,7 @@ fn block(random: &mut Random) -> Vec<u8> {
             _ => body.clear(),
         }
     }
-    let specific = if random.one_in(4) { random.next() as u8 } else { thinning };
+    let specific = if kind == 6 || random.one_in(4) { random.next() as u8 } else { thinning };
     let mut out = vec![kind, specific];
     out.extend_from_slice(&((body.len() / 4) as u16).to_be_bytes());
     out.extend_from_slice(&body);

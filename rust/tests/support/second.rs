@@ -70,6 +70,7 @@ fn check(block: &[u8], asked: u8, served: &[u8]) -> Result<(), No> {
     let expected = match asked {
         1 | 2 | 3 => length.max(12),
         4 => 12,
+        6 => 40,
         _ => (length..).find(|l| (l - 4) % 12 == 0).unwrap(),
     };
     if length != expected {
@@ -140,6 +141,22 @@ pub fn time(block: &[u8]) -> Result<u64, No> {
 pub fn entries(block: &[u8]) -> Result<Vec<(u32, u32, u32)>, No> {
     check(block, 5, &[5])?;
     Ok(block[4..].chunks(12).map(|e| (be32(e, 0), be32(e, 4), be32(e, 8))).collect())
+}
+
+/// Lost, duplicates, jitter and the four bytes, each with whether it is there; and ToH.
+pub type Sums = (Option<u32>, Option<u32>, Option<[u32; 4]>, u8, Option<[u8; 4]>);
+
+pub fn sums(block: &[u8]) -> Result<Sums, No> {
+    check(block, 6, &[6])?;
+    let set = |bit: u8| block[1] & bit == bit;
+    let toh = (block[1] & 0x18) >> 3;
+    Ok((
+        Some(be32(block, 12)).filter(|_| set(0x80)),
+        Some(be32(block, 16)).filter(|_| set(0x40)),
+        Some([be32(block, 20), be32(block, 24), be32(block, 28), be32(block, 32)]).filter(|_| set(0x20)),
+        toh,
+        Some([block[36], block[37], block[38], block[39]]).filter(|_| toh == 1 || toh == 2),
+    ))
 }
 
 /// What a stretch of the cursor comes to: the three of the next cursor, the steps taken, the numbers.

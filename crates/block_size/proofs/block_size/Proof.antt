@@ -4,8 +4,7 @@ use native.Mathlib.Omega.{arith}
 use Rattle.def_jobs.specs.Jobs.{jobWords}
 use Rattle.jobs.specs.Places.{jobOf}
 use Rattle.jobs.proofs.KindLaws.{kind-is, kind-spans}
-use Rattle.block_size.proofs.LayoutLaws.{length-block-words, length-block-times, length-block-clock}
-use Rattle.block_size.proofs.LayoutLaws.{length-block-echoes, length-block-sums, length-block-none}
+use Rattle.block_size.proofs.LayoutLaws.{as-words, as-times, as-echoes, length-block}
 use Rattle.block_size.proofs.ZerosLaws.{zeros-most}
 use borrow.Author.Needs.{needs}
 use Rattle.block_size.proofs.block_size.Statement.{statement}
@@ -31,7 +30,8 @@ returns c = let t = c .before .before in
       arith,
       c .before .above .ensures,
       c .zeros-behind .ensures,
-      length-block-words (a .layout) (jobOf (a .kind) (a .body .now)) (t .enum-told .given .0 .0)
+      as-words (a .layout) (jobOf (a .kind) (a .body .now)) (t .enum-told .given .0 .0),
+      length-block (a .layout) (jobOf (a .kind) (a .body .now))
           (kind-spans (f .kind-of .ensures) (k .k .given .1) (g .k2 .given .1) (t .enum-told .given .1)),
     )
 
@@ -44,7 +44,8 @@ returns-2 c = let t = c .before in
     omega (
       arith,
       c .above2 .ensures,
-      length-block-times (a .layout) (jobOf (a .kind) (a .body .now))
+      as-times (a .layout) (jobOf (a .kind) (a .body .now)),
+      length-block (a .layout) (jobOf (a .kind) (a .body .now))
           (kind-spans (f .kind-of .ensures) (k .k .given .1) (g .k2 .given .1) (t .enum-told2 .given .1)),
     )
 
@@ -52,27 +53,28 @@ returns-3 : tie.Need-returns-3
 returns-3 c = let k = c .before .before .before in
     let f = k .before .before in
     let a = f .before .before .args in
-    sym (length-block-clock (a .layout) (jobOf (a .kind) (a .body .now))
+    sym (length-block (a .layout) (jobOf (a .kind) (a .body .now))
     (kind-is (f .kind-of .ensures) (k .k .given .1) (c .enum-told3 .given .1)))
 
 returns-4 : tie.Need-returns-4
 returns-4 c = let k = c .before .before .before in
     let f = k .before .before in
     let a = f .before .before .args in
-    sym (length-block-echoes (a .layout) (jobOf (a .kind) (a .body .now))
-    (kind-is (f .kind-of .ensures) (k .k .given .1) (c .enum-told4 .given .1)))
+    let j = jobOf (a .kind) (a .body .now) in
+    sym (length-block (a .layout) j (kind-is (f .kind-of .ensures) (k .k .given .1) (c .enum-told4 .given .1))
+    ∙ as-echoes (a .layout) j)
 
 returns-5 : tie.Need-returns-5
 returns-5 c = let k = c .before .before .before in
     let f = k .before .before in
     let a = f .before .before .args in
-    sym (length-block-sums (a .layout) (jobOf (a .kind) (a .body .now))
+    sym (length-block (a .layout) (jobOf (a .kind) (a .body .now))
     (kind-is (f .kind-of .ensures) (k .k .given .1) (c .enum-told5 .given .1)))
 
 returns-6 : tie.Need-returns-6
 returns-6 c = let f = c .before .before in
     let a = f .before .before .args in
-    sym (length-block-none (a .layout) (jobOf (a .kind) (a .body .now))
+    sym (length-block (a .layout) (jobOf (a .kind) (a .body .now))
     (sym (f .kind-of .ensures) ∙ c .enum-told6 .given .1))
 
 pub block-size-spec : {M : Type 1} → statement M
@@ -81,5 +83,5 @@ block-size-spec =
     (tie.spec (λ c κs. search needs) (λ c. search needs) (λ c. search needs) (λ c. search needs) (λ c κs. search needs)
     (λ c. search needs) (λ c. search needs) (λ c κs. search needs) mul-result-2 add-result-2 (λ c. search needs)
     (λ c κs. search needs) (λ c. search needs) (λ c. search needs) (λ c. search needs) (λ c. search needs)
-    (λ c. search needs) (λ c. search needs) (λ c. search needs) (λ c. search needs) returns returns-2 returns-3 returns-4 returns-5
-    returns-6)
+    (λ c. search needs) (λ c. search needs) (λ c. search needs) (λ c. search needs) returns returns-2 returns-3
+    returns-4 returns-5 returns-6)

@@ -1,7 +1,7 @@
 -- `block_size::judged_size` meets its contract, by the kind.
-use mathlib.Core.Path.{_≡_, sym, _∙_}
+use mathlib.Core.Path.{_≡_, refl, sym, _∙_}
 use native.Mathlib.Omega.{arith}
-use borrow.Author.Tests.{ne-eqb}
+use borrow.Author.Tests.{eq-eqb, ne-eqb}
 use Rattle.def_wire.specs.declared.Ranged.{Ranged}
 use Rattle.def_wire.specs.declared.Kind.{Kind}
 use Rattle.def_wire.specs.declared.Kind.the-variants.{Spans}
@@ -10,10 +10,7 @@ use Rattle.def_wire.specs.Block.{kindOf}
 use Rattle.def_jobs.specs.Jobs.{Job, jobWords}
 use Rattle.jobs.specs.Places.{jobOf}
 use Rattle.jobs.proofs.KindLaws.{kind-is, kind-spans}
-use Rattle.block_size.proofs.JudgeLaws.{block-words, block-times, block-clock, block-echoes, block-sums}
-use Rattle.block_size.proofs.JudgeLaws.{block-none}
-use Rattle.block_size.proofs.JudgedLaws.{judged-words, judged-times, judged-clock, judged-echoes, judged-sums}
-use Rattle.block_size.proofs.JudgedLaws.{judged-bad}
+use Rattle.block_size.proofs.JudgedLaws.{judged-good, judged-bad, judged-words, judged-times, judged-echoes}
 use Rattle.block_size.proofs.ZerosLaws.{zeros-most}
 use borrow.Author.Needs.{needs}
 use Rattle.block_size.proofs.judged_size.Statement.{statement}
@@ -53,9 +50,8 @@ returns-2 c = let h = c .before in
     let t = h .before in
     let g = t .before .before .before in
     let f = g .before .before .before .before .before in
-    judged-bad (f .before .before .args .layout) (job f)
-    (block-words (job f) (t .enum-told .given .0 .0) (spans g _ (t .enum-told .given .1))
-    ∙ sym (h .has-words .ensures) ∙ c .if1 .left)
+    judged-bad (f .before .before .args .layout) (job f) (spans g _ (t .enum-told .given .1))
+    (sym (h .has-words .ensures) ∙ c .if1 .left)
 
 returns-3 : tie.Need-returns-3
 returns-3 c = let h = c .before in
@@ -70,21 +66,22 @@ returns-4 c = let h = c .before in
     let t = h .before in
     let g = t .before .before .before in
     let f = g .before .before .before .before .before in
-    judged-bad (f .before .before .args .layout) (job f)
-    (block-times (job f) (spans g _ (t .enum-told2 .given .1)) ∙ sym (h .has-fields .ensures) ∙ c .if2 .left)
+    judged-bad (f .before .before .args .layout) (job f) (spans g _ (t .enum-told2 .given .1))
+    (sym (h .has-fields .ensures) ∙ c .if2 .left)
 
 returns-5 : tie.Need-returns-5
 returns-5 c = let t = c .before in
     let k = t .before .before .before in
     let f = k .before .before in
-    judged-clock (f .before .before .args .layout) (job f) (told k _ (t .enum-told3 .given .1)) (c .if3 .taken)
+    judged-good (f .before .before .args .layout) (job f) (told k _ (t .enum-told3 .given .1))
+    (eq-eqb _ _ (c .if3 .taken)) refl
 
 returns-6 : tie.Need-returns-6
 returns-6 c = let t = c .before in
     let k = t .before .before .before in
     let f = k .before .before in
-    judged-bad (f .before .before .args .layout) (job f)
-    (block-clock (job f) (told k _ (t .enum-told3 .given .1)) ∙ ne-eqb _ _ (c .if3 .left))
+    judged-bad (f .before .before .args .layout) (job f) (told k _ (t .enum-told3 .given .1))
+    (ne-eqb _ _ (c .if3 .left))
 
 returns-7 : tie.Need-returns-7
 returns-7 c = let t = c .before in
@@ -96,29 +93,28 @@ returns-8 : tie.Need-returns-8
 returns-8 c = let t = c .before in
     let k = t .before .before .before in
     let f = k .before .before in
-    judged-bad (f .before .before .args .layout) (job f)
-    (block-echoes (job f) (told k _ (t .enum-told4 .given .1)) ∙ ne-eqb _ _ (c .if4 .left))
+    judged-bad (f .before .before .args .layout) (job f) (told k _ (t .enum-told4 .given .1))
+    (ne-eqb _ _ (c .if4 .left))
 
 returns-9 : tie.Need-returns-9
 returns-9 c = let h = c .before in
     let t = h .before in
     let k = t .before .before .before in
     let f = k .before .before in
-    judged-sums (f .before .before .args .layout) (job f) (told k _ (t .enum-told5 .given .1))
-    (sym (h .has-sums .ensures) ∙ c .if5 .taken)
+    judged-good (f .before .before .args .layout) (job f) (told k _ (t .enum-told5 .given .1))
+    (sym (h .has-sums .ensures) ∙ c .if5 .taken) refl
 
 returns-10 : tie.Need-returns-10
 returns-10 c = let h = c .before in
     let t = h .before in
     let k = t .before .before .before in
     let f = k .before .before in
-    judged-bad (f .before .before .args .layout) (job f)
-    (block-sums (job f) (told k _ (t .enum-told5 .given .1)) ∙ sym (h .has-sums .ensures) ∙ c .if5 .left)
+    judged-bad (f .before .before .args .layout) (job f) (told k _ (t .enum-told5 .given .1))
+    (sym (h .has-sums .ensures) ∙ c .if5 .left)
 
 returns-11 : tie.Need-returns-11
 returns-11 c = let f = c .before .before in
-    judged-bad (f .before .before .args .layout) (job f)
-    (block-none (job f) (sym (f .kind-of .ensures) ∙ c .enum-told6 .given .1))
+    judged-bad (f .before .before .args .layout) (job f) (sym (f .kind-of .ensures) ∙ c .enum-told6 .given .1) refl
 
 pub judged-size-spec : {M : Type 1} → statement M
 judged-size-spec =
@@ -126,4 +122,5 @@ judged-size-spec =
     (tie.spec (λ c κs. search needs) (λ c. search needs) (λ c. search needs) (λ c. search needs) (λ c κs. search needs)
     (λ c. search needs) (λ c κs. search needs) mul-result add-result-2 (λ c. search needs) (λ c κs. search needs)
     (λ c. search needs) (λ c. search needs) (λ c. search needs) (λ c. search needs) (λ c. search needs)
-    (λ c κs. search needs) (λ c. search needs) returns returns-2 returns-3 returns-4 returns-5 returns-6 returns-7 returns-8 returns-9 returns-10 returns-11)
+    (λ c κs. search needs) (λ c. search needs) returns returns-2 returns-3 returns-4 returns-5 returns-6 returns-7
+    returns-8 returns-9 returns-10 returns-11)

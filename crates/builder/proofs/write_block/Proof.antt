@@ -13,8 +13,7 @@ use Rattle.def_wire.specs.Block.{kindOf}
 use Rattle.def_jobs.specs.Jobs.{Job}
 use Rattle.jobs.specs.Places.{jobOf}
 use Rattle.jobs.proofs.KindLaws.{kind-is, kind-spans}
-use Rattle.block_size.proofs.JudgeLaws.{fields-are, good-words, block-words, block-times, block-clock}
-use Rattle.block_size.proofs.JudgeLaws.{block-sums}
+use Rattle.block_size.proofs.JudgeLaws.{fields-are, good-words, block-as}
 use Rattle.builder.proofs.JobLaws.{block-room, block-wrote}
 use Rattle.builder.proofs.write_block.Statement.{statement}
 use Rattle.builder.proofs.write_block.Tie as tie
@@ -65,20 +64,20 @@ write-words-requires c κs =
     let t = c .before .before in
     let s = start-spans (t .before .before) in
     let j = job s in
-    (good-words j (sym (block-words j _ (words t)) ∙ s .pre .0), block-room _ _ (words t) _ _ (s .pre .1))
+    (good-words j (sym (block-as j (words t)) ∙ s .pre .0), block-room _ _ (words t) _ _ (s .pre .1))
 
 write-times-requires : tie.Need-write-times-requires
 write-times-requires c κs =
     let t = c .before in
     let s = start-spans (t .before .before) in
     let j = job s in
-    (fields-are j 4 (sym (block-times j (times t)) ∙ s .pre .0), block-room _ _ (times t) _ _ (s .pre .1))
+    (fields-are j 4 (sym (block-as j (times t)) ∙ s .pre .0), block-room _ _ (times t) _ _ (s .pre .1))
 
 write-clock-requires : tie.Need-write-clock-requires
 write-clock-requires c κs =
     let t = c .before in
     let p = start (t .before .before .before) .pre in
-    (eqb-true _ _ (sym (block-clock _ (clock t)) ∙ p .0), block-room _ _ (clock t) _ _ (p .1))
+    (eqb-true _ _ (sym (block-as _ (clock t)) ∙ p .0), block-room _ _ (clock t) _ _ (p .1))
 
 write-echoes-requires : tie.Need-write-echoes-requires
 write-echoes-requires c κs =
@@ -89,7 +88,7 @@ write-sums-requires : tie.Need-write-sums-requires
 write-sums-requires c κs =
     let t = c .before in
     let s = start (t .before .before .before) in
-    let good = sym (block-sums _ (sums t)) ∙ s .pre .0 in
+    let good = sym (block-as _ (sums t)) ∙ s .pre .0 in
     (eqb-true _ _ (and-true (eqb (length (job s .body)) 38) _ good .0), block-room _ _ (sums t) _ _ (s .pre .1))
 
 -- the block is written

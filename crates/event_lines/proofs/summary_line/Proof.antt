@@ -1,4 +1,4 @@
--- `event_lines::summary_line` meets its contract: `summary `, and the four texts of it. Assumes nothing.
+-- `event_lines::summary_line` meets its contract: `summary ` and the four texts. Assumes nothing.
 use borrow.Author.Needs.{needs}
 use Rattle.print.proofs.AddedLaws.{and-then}
 use Rattle.def_dump.specs.EventLines.{eventLine}
@@ -14,7 +14,6 @@ returns c =
     and-then (and-then (r .text .ensures) (q .summary-parts .ensures)) (p .line-end .ensures)
 
 pub summary-line-spec : {M : Type 1} → statement M
-summary-line-spec =
-    tie.close
+summary-line-spec = tie.close
     (tie.spec (λ c. search needs) (λ c κs. search needs) (λ c. search needs) (λ c κs. search needs)
     (λ c κs. search needs) (λ c. search needs) returns)

@@ -13,8 +13,7 @@ use Rattle.def_jobs.specs.Jobs.{Job, isBlockJob}
 use Rattle.jobs.specs.Places.{jobOf}
 use Rattle.jobs.proofs.KindLaws.{kind-is, kind-spans}
 use Rattle.block_size.specs.Judged.{Fielded}
-use Rattle.misled.proofs.MisledLaws.{fielded-words, fielded-times, misled-bad, misled-words, misled-times}
-use Rattle.misled.proofs.MisledLaws.{misled-clock, misled-echoes, misled-sums, misled-none}
+use Rattle.misled.proofs.MisledLaws.{fielded-words, fielded-times, misled-bad, misled-as, misled-times}
 use Rattle.misled.proofs.misled.Statement.{statement}
 use Rattle.misled.proofs.misled.Tie as tie
 
@@ -71,8 +70,7 @@ returns-2 c = let r = c .before in
     let t = d .before in
     let g = t .before .before .before in
     let f = kind g in
-    let e = misled-words (job f) (start f .args .behind) (good f) (t .enum-told .given .0 .0)
-    (spans g _ (t .enum-told .given .1)) in
+    let e = misled-as (job f) (start f .args .behind) (good f) (spans g _ (t .enum-told .given .1)) in
     c .goes-on .ensures ∙ (rw (r .range-of .ensures, d .fields-of .ensures) e)
 
 returns-3 : tie.Need-returns-3
@@ -86,23 +84,23 @@ returns-3 c = let d = c .before in
 returns-4 : tie.Need-returns-4
 returns-4 c = let k = c .before .before .before in
     let f = k .before .before in
-    misled-clock (job f) (start f .args .behind) (told k _ (c .enum-told3 .given .1))
+    misled-as (job f) (start f .args .behind) (good f) (told k _ (c .enum-told3 .given .1))
 
 returns-5 : tie.Need-returns-5
 returns-5 c = let t = c .before in
     let k = t .before .before .before in
     let f = k .before .before in
     c .misled-echoes .ensures
-    ∙ misled-echoes (job f) (start f .args .behind) (good f) (told k _ (t .enum-told4 .given .1))
+    ∙ misled-as (job f) (start f .args .behind) (good f) (told k _ (t .enum-told4 .given .1))
 
 returns-6 : tie.Need-returns-6
 returns-6 c = let k = c .before .before .before in
     let f = k .before .before in
-    misled-sums (job f) (start f .args .behind) (told k _ (c .enum-told5 .given .1))
+    misled-as (job f) (start f .args .behind) (good f) (told k _ (c .enum-told5 .given .1))
 
 returns-7 : tie.Need-returns-7
 returns-7 c = let f = c .before .before in
-    misled-none (job f) (start f .args .behind) (sym (f .kind-of .ensures) ∙ c .enum-told6 .given .1)
+    misled-as (job f) (start f .args .behind) (good f) (sym (f .kind-of .ensures) ∙ c .enum-told6 .given .1)
 
 pub misled-spec : {M : Type 1} → statement M
 misled-spec =

@@ -1,7 +1,7 @@
 -- `probe::answer` meets its contract: the reply of the kind.
 use Rattle.probe.proofs.ReplyLaws.{replies, is-told, is-cut}
 use Rattle.probe.proofs.KindLaws.{kind-1, kind-2, kind-3, kind-4, kind-5, kind-6, kind-7, kind-8}
-use Rattle.probe.proofs.KindLaws.{kind-9, kind-10, kind-11, kind-12, kind-14, kind-other}
+use Rattle.probe.proofs.KindLaws.{kind-9, kind-10, kind-11, kind-12, kind-13, kind-14, kind-other}
 use borrow.Author.Needs.{needs}
 use Rattle.probe.proofs.answer.Statement.{statement}
 use Rattle.probe.proofs.answer.Tie as tie
@@ -94,17 +94,24 @@ returns-13 : tie.Need-returns-13
 returns-13 c =
     let c1 = c .before .before in
     let c2 = c1 .before .before in
-    let q = replies (kind-14 _ _ (c2 .match .keys13)) (c1 .numbers-asked .ensures) in
+    let q = replies (kind-13 _ _ (c2 .match .keys13)) (c1 .summary-asked .ensures) in
     (q .text, q .served)
 
 returns-14 : tie.Need-returns-14
 returns-14 c =
+    let c1 = c .before .before in
+    let c2 = c1 .before .before in
+    let q = replies (kind-14 _ _ (c2 .match .keys14)) (c1 .numbers-asked .ensures) in
+    (q .text, q .served)
+
+returns-15 : tie.Need-returns-15
+returns-15 c =
     let m = c .before .match .rest in
-    let q = replies (kind-other _ _ (m .0 .0 .0 .0 .0 .0 .0 .0 .0 .0 .0 .0 .1)
-    (m .0 .0 .0 .0 .0 .0 .0 .0 .0 .0 .0 .1) (m .0 .0 .0 .0 .0 .0 .0 .0 .0 .0 .1)
-    (m .0 .0 .0 .0 .0 .0 .0 .0 .0 .1) (m .0 .0 .0 .0 .0 .0 .0 .0 .1) (m .0 .0 .0 .0 .0 .0 .0 .1)
-    (m .0 .0 .0 .0 .0 .0 .1) (m .0 .0 .0 .0 .0 .1) (m .0 .0 .0 .0 .1) (m .0 .0 .0 .1) (m .0 .0 .1) (m .0 .1)
-    (m .1)) (is-cut (c .cut .ensures)) in
+    let q = replies (kind-other _ _ (m .0 .0 .0 .0 .0 .0 .0 .0 .0 .0 .0 .0 .0 .1)
+    (m .0 .0 .0 .0 .0 .0 .0 .0 .0 .0 .0 .0 .1) (m .0 .0 .0 .0 .0 .0 .0 .0 .0 .0 .0 .1)
+    (m .0 .0 .0 .0 .0 .0 .0 .0 .0 .0 .1) (m .0 .0 .0 .0 .0 .0 .0 .0 .0 .1) (m .0 .0 .0 .0 .0 .0 .0 .0 .1)
+    (m .0 .0 .0 .0 .0 .0 .0 .1) (m .0 .0 .0 .0 .0 .0 .1) (m .0 .0 .0 .0 .0 .1) (m .0 .0 .0 .0 .1) (m .0 .0 .0 .1)
+    (m .0 .0 .1) (m .0 .1) (m .1)) (is-cut (c .cut .ensures)) in
     (q .text, q .served)
 
 pub answer-spec : {M : Type 1} → statement M
@@ -113,8 +120,8 @@ answer-spec =
     (tie.spec (λ c κs. search needs) (λ c κs. search needs) (λ c κs. search needs) (λ c κs. search needs)
     (λ c κs. search needs) (λ c κs. search needs) (λ c κs. search needs) (λ c κs. search needs)
     (λ c κs. search needs) (λ c κs. search needs) (λ c κs. search needs) (λ c κs. search needs)
-    (λ c κs. search needs) (λ c κs. search needs) (λ c κs. search needs) (λ c. search needs) returns
+    (λ c κs. search needs) (λ c κs. search needs) (λ c κs. search needs) (λ c κs. search needs) (λ c. search needs) returns
     (λ c. search needs) returns-2 (λ c. search needs) returns-3 (λ c. search needs) returns-4 (λ c. search needs)
     returns-5 (λ c. search needs) returns-6 (λ c. search needs) returns-7 (λ c. search needs) returns-8
     (λ c. search needs) returns-9 (λ c. search needs) returns-10 (λ c. search needs) returns-11 (λ c. search needs)
-    returns-12 (λ c. search needs) returns-13 returns-14)
+    returns-12 (λ c. search needs) returns-13 (λ c. search needs) returns-14 returns-15)

@@ -1,0 +1,2 @@
+-- At (the event at an index; private).
+pub mod At
