@@ -236,5 +236,6 @@ pub one-byte : OneByte
 unfolding followedOf callFault
 one-byte st b t u v w t′ u′ v′ w′ r f l n m e =
     let x = b ∷ [] in
-    room-says n m st x (roomIn t u v w) (faultOf st) (pastOf st x) (roomFault (shows st x) (roomIn t u v w)) refl refl refl
+    let room = roomIn t u v w in
+    room-says n m st x room (faultOf st) (pastOf st x) (roomFault (shows st x) room) refl refl refl
     (omega (arith, most-shown st x, l)) (sym (ap (λ (a : Followed). a .refusal) (f .answer)) ∙ e)

@@ -77,4 +77,5 @@ WholeReading =
 abbrev pub OneByte : Type 0
 OneByte =
     (st : Portions) (b : ℕ) (t u v w t′ u′ v′ w′ : List ℕ) (r : Followed)
-    → Following st (b ∷ []) t u v w r t′ u′ v′ w′ → 16384 ≤ roomIn t u v w → (n m : ℕ) → r .refusal ≡ Unfit (NoRoom n m) → ⊥
+    → Following st (b ∷ []) t u v w r t′ u′ v′ w′ → 16384 ≤ roomIn t u v w → (n m : ℕ)
+    → r .refusal ≡ Unfit (NoRoom n m) → ⊥

@@ -95,7 +95,8 @@ fn put_settled(
     requires { ⌜ n + length (settledEvents st) ≤ roomIn (now tags) (now numbers) (now values) (now sums) ⌝ }
     ensures { λ r. ⌜ r .state ≡ settled st ⌝ }
     ensures { λ r. ⌜ Laid (settledEvents st) n (now (tags .entry)) (now (numbers .entry)) (now (values .entry))
-        (now (sums .entry)) (now (tags .exit)) (now (numbers .exit)) (now (values .exit)) (now (sums .exit)) (r .events) ⌝ }
+        (now (sums .entry)) (now (tags .exit)) (now (numbers .exit)) (now (values .exit)) (now (sums .exit))
+        (r .events) ⌝ }
 {
     if st.missing != 0 {
         return Settled {

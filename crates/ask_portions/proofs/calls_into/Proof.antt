@@ -51,7 +51,8 @@ add-i c =
 
 loop-less : tie.Need-loop-less Inv-loop μ-loop
 loop-less c =
-    let q = called c .before .before .before .before .before .before in omega (arith, q .before .before .loop-test .taken)
+    let q = called c .before .before .before .before .before .before in
+    omega (arith, q .before .before .loop-test .taken)
 
 loop-again : tie.Need-loop-again Inv-loop μ-loop
 loop-again c =

@@ -14,7 +14,8 @@ returns : tie.Need-returns
 returns c =
     let p = c .before .before in
     let q = p .before .before .before .before .before in
-    let f = q .before .before .before .before .before .before .before .before .before .before .before .before .before .before in
+    let g = q .before .before .before .before .before .before in
+    let f = g .before .before .before .before .before .before .before .before in
     let s = f .before .before .before .before .before .before .before .before .before .before .before in
     telling (f .follow .ensures) (bounded s) (q .event-lines .ensures) (p .ending .ensures)
 

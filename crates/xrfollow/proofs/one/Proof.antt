@@ -3,10 +3,12 @@ use borrow.Author.Needs.{needs}
 use Rattle.xrfollow.proofs.one.Statement.{statement}
 use Rattle.xrfollow.proofs.one.Tie as tie
 
--- the call
+-- where the four lists are there again behind the call, and the call
+abbrev again : tie.After-start → tie.After-slice-known9
+again c = c .before .before .before .before .before .before .before .before .before .before .before .before .before .before
+
 abbrev called : tie.After-start → tie.After-follow
-called c =
-    c .before .before .before .before .before .before .before .before .before .before .before .before .before .before .before .before .before .before .before .before .before .before
+called c = again c .before .before .before .before .before .before .before .before
 
 same-length : tie.Need-same-length
 same-length c = called c .follow .kept .1 .1 .0
