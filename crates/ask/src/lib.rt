@@ -1,7 +1,7 @@
-// The questions of xrprobe that are not answered by a list of numbers (README, "xrprobe", kinds 3, 5 to 8, 11 and 13): the
-// library's function is asked, and the answer's line or the refusal is added to the buffer. A packet and a chunk word
-// are made in memory of so much room, lent with a pattern in it. Each function promises that it has added exactly
-// def_probe's line.
+// The questions of xrprobe that are not answered by a list of numbers (README, "xrprobe", kinds 3, 5 to 8, 11 and
+// 13): the library's function is asked, and the answer's line or the refusal is added to the buffer. A packet and a
+// chunk word are made in memory of so much room, lent with a pattern in it. Each function promises that it has added
+// exactly def_probe's line.
 ghost use Prim.Native.Nat.{min};
 ghost use lib.ListN.{length};
 ghost use Rattle.def_refusals.specs.Answers.{Listed};

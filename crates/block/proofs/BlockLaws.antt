@@ -23,7 +23,8 @@ use Rattle.def_wire.specs.declared.TimeOr.the-variants.{Time, NoTime}
 use Rattle.def_wire.specs.declared.Located.the-variants.{At, Missing}
 use Rattle.def_wire.specs.Packet.{locate, part}
 use Rattle.def_wire.specs.Block.{typeOf, blockLength, rleType, receiptType, clockType, echoType, kindType, rule}
-use Rattle.def_wire.specs.Block.{summaryType, wordsAt, standardRule, lostRun, has, clearRule, crateRule, fitness, checkOf}
+use Rattle.def_wire.specs.Block.{summaryType, wordsAt, standardRule, lostRun, has}
+use Rattle.def_wire.specs.Block.{clearRule, crateRule, fitness, checkOf}
 use Rattle.def_wire.specs.Block.{isCut, fieldsAt, fieldsOf, timeAt, timeOf}
 use Rattle.def_questions.specs.Packets.{fieldsAsked, timeAsked}
 use Rattle.utils.proofs.ClearLaws.{fit-times, fit-clock, fit-echoes, fit-statistics}

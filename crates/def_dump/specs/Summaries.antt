@@ -19,7 +19,8 @@ absent = ascii " absent"
 
 -- `ssrc S begin B end E`
 unfoldable pub spanText : Summary → List ℕ
-spanText s = labelled (ascii "ssrc") (s .ssrc) ++ labelled (ascii " begin") (s .begin) ++ labelled (ascii " end") (s .end)
+spanText s =
+    labelled (ascii "ssrc") (s .ssrc) ++ labelled (ascii " begin") (s .begin) ++ labelled (ascii " end") (s .end)
 
 -- a number, or the word `absent` in its place
 abbrev pub countText : CountOr → List ℕ
@@ -32,7 +33,8 @@ countsText s = ascii "lost" ++ countText (s .lost) ++ ascii " duplicates" ++ cou
 
 -- `jitter MIN MAX MEAN DEVIATION`, or `jitter absent`
 unfoldable pub jitterText : JitterOr → List ℕ
-jitterText (Jitter x) = ascii "jitter" ++ spaced (x .least) ++ spaced (x .most) ++ spaced (x .mean) ++ spaced (x .deviation)
+jitterText (Jitter x) =
+    ascii "jitter" ++ spaced (x .least) ++ spaced (x .most) ++ spaced (x .mean) ++ spaced (x .deviation)
 jitterText NoJitter = ascii "jitter" ++ absent
 
 -- `ttl MIN MAX MEAN DEVIATION`, `hops ..`; `ttl absent` where ToH is 0, `toh 3 absent` where it is 3

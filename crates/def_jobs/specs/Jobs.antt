@@ -107,8 +107,8 @@ jobWords j = low16 (drop 10 (j .body))
 abbrev pub jobTimes : Job → List ℕ
 jobTimes j = low32 (drop 10 (j .body))
 
--- kind 6: the block's specific byte (1), 0 (1), SSRC (4), begin (2), end (2), lost (4), duplicates (4), jitter (4 of 4),
--- TTL or hop limit (4 of 1)
+-- kind 6: the block's specific byte (1), 0 (1), SSRC (4), begin (2), end (2), lost (4), duplicates (4), jitter (4
+-- of 4), TTL or hop limit (4 of 1)
 abbrev pub jobFlags : Job → ℕ
 jobFlags j = byteAt (j .body) 0
 

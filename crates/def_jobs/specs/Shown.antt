@@ -27,7 +27,8 @@ use Rattle.def_wire.specs.declared.HopsOr.the-variants.{NoHops, Ttl, HopLimit, 
 use Rattle.def_wire.specs.declared.Summary.{Summary}
 use Rattle.def_wire.specs.declared.SummaryOr.{SummaryOr}
 use Rattle.def_wire.specs.declared.SummaryOr.the-variants.{Stated, NoSummary}
-use Rattle.def_wire.specs.Block.{typeOf, rleType, receiptType, clockType, echoType, summaryType, kindIn, fieldsOf, timeOf}
+use Rattle.def_wire.specs.Block.{typeOf, rleType, receiptType, clockType, echoType}
+use Rattle.def_wire.specs.Block.{summaryType, kindIn, fieldsOf, timeOf}
 use Rattle.def_wire.specs.Summary.{summaryOf}
 use Rattle.def_standard.specs.declared.Receipt.{Receipt}
 use Rattle.def_standard.specs.declared.Echo.{Echo}

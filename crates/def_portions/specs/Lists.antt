@@ -1,6 +1,6 @@
 -- How four lent lists, side by side, hold events: the event at an index has its tag there, and its sequence number and
--- its value, where it has one; three numbers of the fourth list belong to each index, for a summary alone. What an event
--- does not have is left as it was.
+-- its value, where it has one; three numbers of the fourth list belong to each index, for a summary alone. What an
+-- event does not have is left as it was.
 --     kind in the tag's lowest byte      tag beside it             number    value               sums
 --     1 header                           length                              SSRC
 --     2 start                            type, L
@@ -10,7 +10,8 @@
 --     6 entry                            SSRC                                last, delay
 --     7 time                                                                 time
 --     8 end
---     9 summary                          flags, TTL or hop limit             SSRC, begin, end    lost, duplicates; jitter
+--     9 summary                          flags, TTL or hop limit             SSRC, begin, end    lost, duplicates,
+--                                                                                                jitter
 --     roomIn       how many events four lists have room for
 --     laid         a list after the parts of events were put into it; laidSums of the fourth
 use Prim.Native.Nat.{ℕ, suc, _+_, _*_, _/_, min}

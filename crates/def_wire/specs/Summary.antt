@@ -3,7 +3,8 @@
 --     summaryFrom    what is shown of them, by the flags: a number whose flag is clear is absent
 --     summaryAt      what a view shows
 --     summaryOf      the answer to the question for a summary
---     flagsOf, sumsOf     the flags and numbers of what is shown, 0 where one is absent: `summaryFrom` of them is it again
+--     flagsOf, sumsOf     the flags and numbers of what is shown, 0 where one is absent: `summaryFrom` of these
+--                         is it again
 use Prim.Native.Nat.{ℕ, _+_, _*_, _/_, _%_}
 use mathlib.Core.Bool.{Bool, true, false, cond}
 use mathlib.Core.List.{List}

@@ -78,7 +78,8 @@ pub enum TimeOr {
     NoTime(Refusal),
 }
 
-// Four numbers of a Statistics Summary block (RFC 3611, 4.6): of jitter, 32 bits each; of TTL or hop limit, a byte each.
+// Four numbers of a Statistics Summary block (RFC 3611, 4.6): of jitter, 32 bits each; of TTL or hop limit, a byte
+// each.
 pub struct Spread {
     pub least: u32,
     pub most: u32,

@@ -166,8 +166,8 @@ fn contents_or(r: Reading, k: Kind, v: &[u8], buf: &mut [u8], at: usize) -> usiz
     }
 }
 
-// Block k, of which v is the view: its line, and what it shows. Of types that the reading does not know, type and length
-// only.
+// Block k, of which v is the view: its line, and what it shows. Of types that the reading does not know, type and
+// length only.
 fn one_block(r: Reading, k: usize, v: &[u8], buf: &mut [u8], at: usize) -> usize
     ensures { λ n. ⌜ Added (now (buf .entry)) at (blockText r k (now (v .entry))) (now (buf .exit)) n ⌝ }
 {

@@ -99,7 +99,8 @@ pub fn event_line(buf: &mut [u8], at: usize, e: Event) -> usize
 // The event at an index of four lists.
 fn event_at(tags: &[u64], numbers: &[u16], values: &[u64], sums: &[u64], i: usize) -> Event
     requires { ⌜ i < roomIn (now tags) (now numbers) (now values) (now sums) ⌝ }
-    ensures { λ r. ⌜ r ≡ eventAt (now (tags .entry)) (now (numbers .entry)) (now (values .entry)) (now (sums .entry)) i ⌝ }
+    ensures { λ r. ⌜ r ≡ eventAt (now (tags .entry)) (now (numbers .entry)) (now (values .entry))
+        (now (sums .entry)) i ⌝ }
 {
     let three = 3 * i;
     event_lists::event_of(

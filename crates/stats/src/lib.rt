@@ -1,5 +1,5 @@
-// The numbers of a Statistics Summary block and its flags (RFC 3611, 4.6; def_wire/specs/Summary.antt): what is shown of
-// them, and back.
+// The numbers of a Statistics Summary block and its flags (RFC 3611, 4.6; def_wire/specs/Summary.antt): what is shown
+// of them, and back.
 ghost use mathlib.Core.Path.{_≡_};
 ghost use Prim.Native.Nat.{_≤_};
 ghost use Rattle.def_wire.specs.Summary.{countIf, jitterIf, hopsBy, summaryFrom, countFlag, jitterFlag, tohOf, flagsOf};

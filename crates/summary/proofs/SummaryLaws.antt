@@ -1,4 +1,5 @@
--- The laws of the question for a summary: each way in which it ends, with what leads there as premises. Assumes nothing.
+-- The laws of the question for a summary: each way in which it ends, with what leads there as premises. Assumes
+-- nothing.
 use Prim.Native.Nat.{ℕ}
 use mathlib.Core.Path.{_≡_}
 use mathlib.Core.List.{List}

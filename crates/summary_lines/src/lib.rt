@@ -1,6 +1,7 @@
 // The lines of a summary (def_dump/specs/Summaries.antt). The text goes through a lent buffer, as print's functions do.
 ghost use Rattle.def_text.specs.Buffer.{Added};
-ghost use Rattle.def_dump.specs.Summaries.{spanText, countText, countsText, jitterText, fourText, hopsText, summaryParts};
+ghost use Rattle.def_dump.specs.Summaries.{spanText, countText, countsText, jitterText};
+ghost use Rattle.def_dump.specs.Summaries.{fourText, hopsText, summaryParts};
 ghost use Rattle.def_dump.specs.Summaries.{summaryLines};
 use def_wire::ByteSpread;
 use def_wire::CountOr;

@@ -9,7 +9,8 @@ use Rattle.dump.proofs.summary_or.Tie as tie
 returns : tie.Need-returns
 returns c =
     let d = c .before .before .before .before .before in
-    reads (ap summaryOr (sym (d .s .given .1) ∙ d .before .before .summary .ensures)) (c .before .before .summary-lines .ensures)
+    reads (ap summaryOr (sym (d .s .given .1) ∙ d .before .before .summary .ensures))
+    (c .before .before .summary-lines .ensures)
 
 returns-2 : tie.Need-returns-2
 returns-2 c =

@@ -38,7 +38,8 @@ loop-again c =
     let a = d .before .before .before .before .before .before .before .before .before .before .before .args in (
       omega arith,
       e .1,
-      next (lines-next (a .count) (a .tags .now) (a .numbers .now) (a .values .now) (a .sums .now) (d .before .loop .i) (omega arith))
+      next (lines-next (a .count) (a .tags .now) (a .numbers .now) (a .values .now) (a .sums .now)
+          (d .before .loop .i) (omega arith))
           (reads (ap eventLine (q .event-at .ensures)) (p .event-line .ensures)) (e .2),
     )
 
@@ -52,7 +53,8 @@ at-requires c κs =
 returns : tie.Need-returns Inv-loop μ-loop
 returns c =
     let a = c .before .before .before .before .before .before .before .before .before .before .before .args in
-    done (lines-end (a .count) (a .tags .now) (a .numbers .now) (a .values .now) (a .sums .now) (c .before .loop .i) (omega arith))
+    done (lines-end (a .count) (a .tags .now) (a .numbers .now) (a .values .now) (a .sums .now) (c .before .loop .i)
+    (omega arith))
     (c .before .loop .inv .2)
 
 pub event-lines-spec : {M : Type 1} → statement M

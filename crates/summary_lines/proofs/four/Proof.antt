@@ -10,7 +10,8 @@ returns c =
     let q = p .before .before .before .before .before in
     let r = q .before .before .before .before .before in
     let s = r .before .before .before .before .before in
-    and-then (and-then (and-then (s .number .ensures) (r .number2 .ensures)) (q .number3 .ensures)) (p .number4 .ensures)
+    and-then (and-then (and-then (s .number .ensures) (r .number2 .ensures)) (q .number3 .ensures))
+    (p .number4 .ensures)
 
 pub four-spec : {M : Type 1} → statement M
 four-spec = tie.close

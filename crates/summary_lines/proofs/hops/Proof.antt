@@ -11,11 +11,13 @@ returns c = rw (c .before .before .before .before .before .enum-told .given .1) 
 
 returns-2 : tie.Need-returns-2
 unfolding hopsText
-returns-2 c = rw (c .before .before .before .before .before .before .before .before .before .before .h .given .1) (and-then (c .before .before .before .before .before .before .text2 .ensures) (c .before .before .four .ensures))
+returns-2 c = rw (c .before .before .before .before .before .before .before .before .before .before .h .given .1)
+    (and-then (c .before .before .before .before .before .before .text2 .ensures) (c .before .before .four .ensures))
 
 returns-3 : tie.Need-returns-3
 unfolding hopsText
-returns-3 c = rw (c .before .before .before .before .before .before .before .before .before .before .h2 .given .1) (and-then (c .before .before .before .before .before .before .text3 .ensures) (c .before .before .four2 .ensures))
+returns-3 c = rw (c .before .before .before .before .before .before .before .before .before .before .h2 .given .1)
+    (and-then (c .before .before .before .before .before .before .text3 .ensures) (c .before .before .four2 .ensures))
 
 returns-4 : tie.Need-returns-4
 unfolding hopsText

@@ -13,7 +13,9 @@ returns c =
     let r = q .before .before .before .before .before in
     let s = r .before .before .before .before .before in
     let t = s .before .before .before .before .before in
-    rw (c .before .before .before .before .before .before .before .before .before .before .before .before .before .before .before .before .before .before .before .before .before .before .before .before .before .before .j .given .1) (and-then (and-then (and-then (and-then (t .text .ensures) (s .number .ensures)) (r .number2 .ensures)) (q .number3 .ensures)) (p .number4 .ensures))
+    rw (t .before .before .before .before .j .given .1)
+    (and-then (and-then (and-then (and-then (t .text .ensures) (s .number .ensures)) (r .number2 .ensures))
+    (q .number3 .ensures)) (p .number4 .ensures))
 
 returns-2 : tie.Need-returns-2
 unfolding jitterText

@@ -15,7 +15,8 @@ returns c =
     let t = s .before .before .before .before in
     let u = t .before .before .before .before in
     let v = u .before .before .before .before in
-    and-then (and-then (and-then (and-then (and-then (and-then (v .span .ensures) (u .text .ensures)) (t .counts .ensures)) (s .text2 .ensures)) (r .jitter .ensures)) (q .text3 .ensures)) (p .hops .ensures)
+    and-then (and-then (and-then (and-then (and-then (and-then (v .span .ensures) (u .text .ensures))
+    (t .counts .ensures)) (s .text2 .ensures)) (r .jitter .ensures)) (q .text3 .ensures)) (p .hops .ensures)
 
 pub summary-parts-spec : {M : Type 1} → statement M
 summary-parts-spec = tie.close

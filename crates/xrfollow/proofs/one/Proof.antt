@@ -5,7 +5,8 @@ use Rattle.xrfollow.proofs.one.Tie as tie
 
 -- where the four lists are there again behind the call, and the call
 abbrev again : tie.After-start → tie.After-slice-known9
-again c = c .before .before .before .before .before .before .before .before .before .before .before .before .before .before
+again c = c .before .before .before .before .before .before .before .before .before .before .before .before .before
+    .before
 
 abbrev called : tie.After-start → tie.After-follow
 called c = again c .before .before .before .before .before .before .before .before
