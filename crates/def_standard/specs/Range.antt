@@ -1,5 +1,8 @@
--- The range of sequence numbers that a block reports on, and its grid (RFC 3611, 4.1; RULES, "Standard reading").
---     rangeOf      the range of a block's fields
+-- The sequence numbers that a block reports on (RFC 3611, 4.1; RULES, "Standard reading"). That position p of a block is
+-- inside where d + p · 2^T < R, and is then number (begin + d + p · 2^T) mod 65536, is proved (`claims`, Grid).
+--     sizeOf       R, how many numbers its range has
+--     aheadOf      d, how far the first number on its grid lies ahead of begin
+--     rangeOf      what a block's fields report on
 --     inside       whether a position is inside
 --     numberOf     a position's sequence number
 use Prim.Native.Nat.{ℕ, _+_, _*_, _-_, _%_, _^_}
@@ -17,10 +20,21 @@ circle = 65536
 abbrev pub sizeOf : ℕ → ℕ → ℕ
 sizeOf b e = cond (eqb b e) circle ((e + circle - b) % circle)
 
-unfoldable pub rangeOf : Fields → Range
-rangeOf f = record { begin = f .begin; size = sizeOf (f .begin) (f .end); thinning = f .thinning }
+-- d: a block thinned by T reports on the numbers that are 0 mod 2^T, its grid; this far it is from begin up to the next
+-- of them, 0 where begin is one
+unfoldable pub aheadOf : ℕ → ℕ → ℕ
+aheadOf b t = (2 ^ t - b % 2 ^ t) % 2 ^ t
 
--- how far position p lies from begin
+-- from the first number on the grid to before end; nothing where end comes first (R ≤ d)
+unfoldable pub rangeOf : Fields → Range
+rangeOf f =
+    record {
+      begin = (f .begin + aheadOf (f .begin) (f .thinning)) % circle;
+      size = sizeOf (f .begin) (f .end) - aheadOf (f .begin) (f .thinning);
+      thinning = f .thinning;
+    }
+
+-- how far position p lies from the first
 unfoldable pub offsetOf : Range → ℕ → ℕ
 offsetOf g p = p * 2 ^ (g .thinning)
 

@@ -22,8 +22,9 @@ pub enum MadeWord {
 
 // The sequence numbers that a block reports on.
 pub struct Range {
+    // the first of them, position 0
     pub begin: u16,
-    // how many numbers there are from begin on
+    // how many numbers there are from it to before the block's end
     pub size: usize,
     // every 2 to the thinning is reported
     pub thinning: u8,

@@ -1,5 +1,7 @@
--- What the functions of this crate compute on their way to the definitions' lists. Read in this order: Steps (numbers
--- one step apart), Inside (how many positions are inside), Failing (where the crate's test fails first).
+-- What the functions of this crate compute on their way to the definitions' lists. Read in this order: Grid (the range
+-- as the crate counts it), Steps (numbers one step apart), Inside (how many positions are inside), Failing (where the
+-- crate's test fails first).
+pub mod Grid
 pub mod Steps
 pub mod Inside
 pub mod Failing
