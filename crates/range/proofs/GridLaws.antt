@@ -10,6 +10,7 @@ use Prim.Native.Nat.{ℕ, suc, _+_, _*_, _-_, _/_, _%_, _^_, _≤_, _<_}
 use mathlib.Core.Path.{_≡_, refl, sym, ap, ap₂, _∙_}
 use mathlib.Core.Bool.{true, false}
 use native.Mathlib.Nat.{mod-eq-of-lt, mod-lt, mod-self, div-add-mod, mul-mod-left, mod-add-mod, add-mul-mod-self-right}
+use native.Mathlib.Nat.{sub-zero}
 use native.Mathlib.Omega.{arith}
 use lib.Dec.{ltb, eqb, lit<}
 use lib.Pow.{pow-pos, pow-mono, pow-add, mod-mod-pow}
@@ -20,7 +21,7 @@ use Rattle.def_standard.specs.declared.Range.{Range}
 use Rattle.def_standard.specs.Range.{circle, sizeOf, aheadOf, rangeOf, offsetOf, inside, numberOf}
 use Rattle.range.specs.Grid.{fromBegin}
 use Rattle.range.specs.Inside.{ceilDiv, insideCount}
-use Rattle.range.proofs.InsideLaws.{ceil-below, ceil-above}
+use Rattle.range.proofs.InsideLaws.{ceil-below, ceil-above, ceil-far}
 
 -- ---- rounding up
 
@@ -69,10 +70,55 @@ module _ (b t : ℕ) where
 pub size-fits : (b e : ℕ) → sizeOf b e ≤ circle
 size-fits b e = both (λ (n : ℕ). n ≤ circle) (eqb b e) (λ _. omega arith) (λ _. omega arith)
 
--- from thinning 17 on 0 alone is on the grid
+-- by a thinning as large as this or larger, 0 alone is on the grid
+module _ (b t : ℕ) (h : b < 65536) (k : 16 ≤ t) where
+  low : 65536 ≤ 2 ^ t
+  low = pow-mono k
+
+  far-zero : b ≡ 0 → aheadOf b t ≡ 0
+  far-zero z = ahead-on b t (mod-eq-of-lt (let l : b < 2 ^ t = omega (arith, low) in l) ∙ z)
+
+  far-sum : (b ≡ 0 → ⊥) → b + aheadOf b t ≡ 2 ^ t
+  far-sum n =
+      let r : b % 2 ^ t ≡ b = mod-eq-of-lt (let l : b < 2 ^ t = omega (arith, low) in l) in
+      let e : aheadOf b t ≡ 2 ^ t - b % 2 ^ t = ahead-off b t (λ z. n (sym r ∙ z)) in
+      omega (arith, low)
+
+  far-first : (b + aheadOf b t) % circle ≡ 0
+  far-first =
+      either (eqb b 0)
+      (λ u. let z : b ≡ 0 = eqb-true _ _ u in rw (far-zero z, z))
+      (λ v. rw (far-sum (eqb-false _ _ v))
+      (let e : t ≡ t - 16 + 16 = omega arith in
+      ap (λ (n : ℕ). 2 ^ n % circle) e ∙ (rw (pow-add 2 (t - 16) 16) (mul-mod-left (2 ^ (t - 16)) circle))))
+
+-- so from 17 on every thinning comes to the same
 module _ (b t : ℕ) (h : b < 65536) (k : 17 ≤ t) where
-  far-mod : (b + aheadOf b t) % circle ≡ (b + aheadOf b 17) % circle
-  far-mod = {! !}
+  pub far-begin : (b + aheadOf b 17) % circle ≡ (b + aheadOf b t) % circle
+  far-begin = far-first b 17 h (omega arith) ∙ sym (far-first b t h (omega arith))
+
+  pub far-size : (e : ℕ) → sizeOf b e - aheadOf b 17 ≡ sizeOf b e - aheadOf b t
+  far-size e =
+      let long : 131072 ≤ 2 ^ t = pow-mono k in
+      either (eqb b 0)
+      (λ u. let z : b ≡ 0 = eqb-true _ _ u in rw (far-zero b 17 h (omega arith) z, far-zero b t h (omega arith) z))
+      (λ v. let n = eqb-false _ _ v in
+      let size = size-fits b e in
+      let near = far-sum b 17 h (omega arith) n in
+      let far = far-sum b t h (omega arith) n in
+      omega arith)
+
+-- ---- on the grid
+
+-- every number of a range lies where its first does
+pub number-grid : (g : Range) (p : ℕ) → g .thinning ≤ 16
+    → numberOf g p % 2 ^ (g .thinning) ≡ g .begin % 2 ^ (g .thinning)
+unfolding numberOf offsetOf
+number-grid g p h =
+    let t = g .thinning in
+    let x = g .begin + p * 2 ^ t in
+    let e : 16 ≡ 16 - t + t = omega arith in
+    ap (λ (n : ℕ). x % 2 ^ n % 2 ^ t) e ∙ mod-mod-pow x (16 - t) t ∙ add-mul-mod-self-right (g .begin) p (2 ^ t)
 
 module _ (f : Fields) where
   abbrev b : ℕ
@@ -113,3 +159,46 @@ module _ (f : Fields) where
       ≡ (f .begin + aheadOf (f .begin) (f .thinning) + p * 2 ^ (f .thinning)) % circle
   unfolding rangeOf numberOf offsetOf
   number-ahead p = mod-add-mod (b + d) circle (p * 2 ^ t)
+
+  -- a block's numbers are on its grid
+  pub listed-grid : (p : ℕ) → f .thinning ≤ 16 → numberOf (rangeOf f) p % 2 ^ (f .thinning) ≡ 0
+  unfolding rangeOf
+  listed-grid p h =
+      let e : 16 ≡ 16 - t + t = omega arith in
+      number-grid (rangeOf f) p h
+      ∙ ap (λ (n : ℕ). (b + d) % 2 ^ n % 2 ^ t) e
+      ∙ mod-mod-pow (b + d) (16 - t) t
+      ∙ ap (λ (n : ℕ). n % 2 ^ t) (grid-sum b t)
+      ∙ mul-mod-left (ceilDiv b (2 ^ t)) (2 ^ t)
+
+  -- no more of them than the crate counts
+  pub inside-fewer : insideCount (rangeOf f) ≤ insideCount (fromBegin f)
+  unfolding rangeOf insideCount
+  inside-fewer =
+      let m = 2 ^ t in
+      let r = sizeOf (f .begin) (f .end) in
+      let far : r ≤ ceilDiv r m * m = ceil-far r m (pow-pos t) (ceilDiv r m) (omega arith) in
+      ceil-above (r - d) m (pow-pos t) (ceilDiv r m) (omega arith)
+
+  -- where begin is on the grid the range is the crate's
+  module _ (fits : f .begin < 65536) where
+    pub range-on-grid : aheadOf (f .begin) (f .thinning) ≡ 0 → rangeOf f ≡ fromBegin f
+    unfolding rangeOf
+    range-on-grid z =
+        let e : (b + 0) % 65536 ≡ b = omega arith in
+        rw (z, e, sub-zero (sizeOf (f .begin) (f .end)))
+
+    -- and there only it begins with begin
+    pub begin-on-grid : eqb (rangeOf f .begin) (f .begin) ≡ eqb (aheadOf (f .begin) (f .thinning)) 0
+    unfolding rangeOf
+    begin-on-grid =
+        either (eqb d 0)
+        (λ u. let z : d ≡ 0 = eqb-true _ _ u in
+        let e : (b + d) % 65536 ≡ b = omega arith in eq-eqb _ _ e ∙ sym u)
+        (λ v. let n : d ≡ 0 → ⊥ = eqb-false _ _ v in
+        let away : (b + d) % 65536 ≡ b → ⊥ = either (ltb t 16)
+        (λ x. let short : 2 ^ t ≤ 2 ^ 15 = pow-mono (let l : t ≤ 15 = omega (arith, ltb-true _ _ x) in l) in
+        let l = ahead-less b t in λ e. omega arith)
+        (λ y. let k : 16 ≤ t = ltb-false _ _ y in
+        λ e. n (far-zero b t fits k (sym e ∙ far-first b t fits k))) in
+        ne-eqb _ _ away ∙ sym v)
