@@ -13,7 +13,7 @@ use mathlib.Core.List.{List, [], _∷_, _++_}
 use lib.ListN.{replicate}
 use Rattle.def_wire.specs.Block.{rleOf, rangedOf, kindOf, has}
 use Rattle.def_standard.specs.Chunks.{valuesIn}
-use Rattle.def_standard.specs.Range.{rangeOf, offsetOf, inside, numberOf}
+use Rattle.def_standard.specs.Range.{aheadOf, rangeOf, offsetOf, inside, numberOf}
 use Rattle.def_crate.specs.Sequence.{passes}
 use Rattle.range.specs.Inside.{ceilDiv, insideCount}
 use Rattle.range.specs.Failing.{firstFail}
@@ -22,7 +22,8 @@ use Rattle.def_refusals.specs.declared.Checked.the-variants.{Fine, Unfit}
 use Rattle.def_jobs.specs.Jobs.{Job, pairLow, isBlockJob}
 use Rattle.def_jobs.specs.Layout.{blockBytes, blocksBytes}
 use Rattle.jobs.specs.Places.{jobOf}
-use Rattle.misled.specs.Misled.{outsideFrom, goesOn, misledTimes, misledEchoes, misledBy, misledFault}
+use Rattle.misled.specs.Misled.{sharedOf, outsideFrom, goesOn, misledTimes, misledEchoes}
+use Rattle.misled.specs.Misled.{misledBy, misledFault}
 
 -- numbers of two bytes, the least significant first
 abbrev pub low : List ℕ → List ℕ
@@ -43,30 +44,45 @@ pub record Words : Type 0 where
   pub near-the-top : loss 65530 65531 0 (49408 ∷ []) ≡ true
   -- two positions on the circle, and a third one on the first's number
   pub around : (loss 0 0 15 (16387 ∷ []) ≡ true) × (loss 0 40000 15 (16387 ∷ []) ≡ true)
+  -- begin off the grid: any one that an old reader lists, inside the range or not; no ones, or a first one that fails,
+  -- which is past the range, mislead nobody
+  pub off-the-grid :
+      (loss 5 20 2 [] ≡ false) × (loss 5 20 2 (3 ∷ []) ≡ false) × (loss 5 20 2 (16385 ∷ []) ≡ true)
+      × (loss 5 8 2 (16385 ∷ []) ≡ true) × (loss 5 20 2 (32776 ∷ []) ≡ false) × (loss 5 20 2 (4 ∷ 16385 ∷ []) ≡ true)
+  -- and where it is one up, on it
+  pub on-the-grid : (loss 8 20 2 (16385 ∷ []) ≡ false) × (loss 8 20 2 (16387 ∷ 16385 ∷ []) ≡ true)
 
 pub words-hold : Words
-unfolding rleOf rangedOf kindOf has valuesIn rangeOf offsetOf inside numberOf passes pairLow isBlockJob outsideFrom
-    goesOn misledBy
+unfolding rleOf rangedOf kindOf has valuesIn aheadOf rangeOf offsetOf inside numberOf passes pairLow isBlockJob
+    sharedOf outsideFrom goesOn misledBy
 words-hold =
     record {
       of-two = (refl, refl, refl, refl);
       near-the-top = refl;
       around = (refl, refl);
+      off-the-grid = (refl, refl, refl, refl, refl, refl);
+      on-the-grid = (refl, refl);
     }
 
--- a record of one time in a range of two, and of two, with so many bytes behind the block
+-- a record of times in a range of two numbers, with so many bytes behind the block; and by a thinning
+abbrev pub thinned : ℕ → List ℕ → ℕ → Bool
+thinned t ts behind = misledBy (jobOf 3 (low (7 ∷ 0 ∷ 5 ∷ 7 ∷ t ∷ ts))) behind
+
 abbrev pub times : List ℕ → ℕ → Bool
-times ts behind = misledBy (jobOf 3 (low (7 ∷ 0 ∷ 5 ∷ 7 ∷ 0 ∷ ts))) behind
+times = thinned 0
 
 pub record OfTimes : Type 0 where
   -- one own time: four bytes behind it are taken for a second
   pub one : (times (1 ∷ 0 ∷ []) 0 ≡ false) × (times (1 ∷ 0 ∷ []) 3 ≡ false) × (times (1 ∷ 0 ∷ []) 4 ≡ true)
   -- two: the range ends the list
   pub two : times (1 ∷ 0 ∷ 2 ∷ 0 ∷ []) 4 ≡ false
+  -- begin off the grid: one time, own or behind the block, is listed with begin; no time misleads nobody
+  pub off-the-grid : (thinned 1 [] 3 ≡ false) × (thinned 1 [] 4 ≡ true) × (thinned 1 (1 ∷ 0 ∷ []) 0 ≡ true)
 
 pub times-hold : OfTimes
-unfolding rleOf rangedOf kindOf rangeOf ceilDiv insideCount firstFail pairLow isBlockJob misledTimes misledBy
-times-hold = record { one = (refl, refl, refl); two = refl }
+unfolding rleOf rangedOf kindOf aheadOf rangeOf ceilDiv insideCount firstFail pairLow isBlockJob sharedOf misledTimes
+    misledBy
+times-hold = record { one = (refl, refl, refl); two = refl; off-the-grid = (refl, refl, refl) }
 
 -- a record of so many entries, with so many bytes behind the block
 abbrev pub entries : ℕ → ℕ → Bool

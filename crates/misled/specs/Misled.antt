@@ -1,6 +1,7 @@
 -- What 15 comes to: whether an old reader would be misled by a record's block is a question about the record and how
 -- many bytes stand behind its block (RULES, "Job lists and writing"). That it is what the definition says, the careful
 -- layout read in both readings and compared, is proved in `old_readers`.
+--     sharedOf        the positions that both readings list, as the same numbers
 --     outsideAt       the first place of a word that has value one and is outside the range
 --     goesOn          types 1 and 2: the crate's list goes on past the range
 --     misledTimes     type 3
@@ -23,13 +24,20 @@ use Rattle.def_wire.specs.declared.KindOr.the-variants.{AKind, NoKind}
 use Rattle.def_wire.specs.Block.{kindOf}
 use Rattle.def_standard.specs.declared.Range.{Range}
 use Rattle.def_standard.specs.Chunks.{coversOf, valuesIn}
-use Rattle.def_standard.specs.Range.{rangeOf, inside, numberOf}
+use Rattle.def_standard.specs.Range.{aheadOf, rangeOf, inside, numberOf}
 use Rattle.def_crate.specs.Sequence.{passes}
 use Rattle.range.specs.Inside.{insideCount}
 use Rattle.range.specs.Failing.{firstFail}
 use Rattle.def_jobs.specs.declared.Layout.the-variants.{Careful}
 use Rattle.def_jobs.specs.Jobs.{Job, jobFields, jobWords, jobTimes, isBlockJob}
 use Rattle.def_jobs.specs.Layout.{blocksBytes}
+
+-- where begin is on the grid, those of the block's range; else none, since the standard's numbers are all on the grid and
+-- the crate's, counted from begin, all off it
+unfoldable pub sharedOf : Fields → Range
+sharedOf f =
+    cond (eqb (aheadOf (f .begin) (f .thinning)) 0) (rangeOf f)
+    (record { begin = f .begin; size = 0; thinning = f .thinning })
 
 -- of a word whose first position is p: the first place, from place q on, of value one and outside the range; the place
 -- past the values where there is none
@@ -40,8 +48,9 @@ outsideFrom g p q (v ∷ vs) = cond (eqb v 1 && not (inside g (p + q))) q (outsi
 abbrev pub outsideAt : Range → ℕ → ℕ → ℕ
 outsideAt g p w = outsideFrom g p 0 (valuesIn w)
 
--- words whose first position is p: the first one-valued position outside the range passes the crate's test, from the
--- number that its word begins with. All before it are listed in both readings, and none behind it in the standard
+-- words whose first position is p: the first one-valued position outside what is shared passes the crate's test, from
+-- the number that its word begins with. All before it are listed in both readings, and none behind it in the standard as
+-- the crate lists it
 unfoldable pub goesOn : Range → ℕ → ℕ → List ℕ → Bool
 goesOn g end p [] = false
 goesOn g end p (w ∷ ws) =
@@ -49,13 +58,13 @@ goesOn g end p (w ∷ ws) =
     (goesOn g end (p + coversOf w) ws)
 
 abbrev pub misledWords : Fields → List ℕ → Bool
-misledWords f ws = goesOn (rangeOf f) (f .end) 0 ws
+misledWords f ws = goesOn (sharedOf f) (f .end) 0 ws
 
--- of so many own times and so many up to the packet's end, the crate lists those before the first place that fails, the
--- standard the own ones inside the range
+-- of so many own times and so many up to the packet's end, the crate lists those before the first place that fails; the
+-- own ones that are shared are listed in the standard as the crate lists them
 unfoldable pub misledTimes : Fields → ℕ → ℕ → Bool
 misledTimes f own all =
-    not (eqb (min (firstFail (f .begin) (f .end) (f .thinning)) all) (min (insideCount (rangeOf f)) own))
+    not (eqb (min (firstFail (f .begin) (f .end) (f .thinning)) all) (min (insideCount (sharedOf f)) own))
 
 -- the crate takes a block of 1, 5, 9, .. entries, and lists all that stands behind them too
 unfoldable pub misledEchoes : ℕ → ℕ → Bool

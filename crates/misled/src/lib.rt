@@ -9,7 +9,7 @@ ghost use Rattle.def_standard.specs.Chunks.{coversOf};
 ghost use Rattle.def_jobs.specs.Jobs.{le16, jobFields, jobWords};
 ghost use Rattle.jobs.specs.Places.{jobOf};
 ghost use Rattle.block_size.specs.Judged.{Fielded};
-ghost use Rattle.misled.specs.Misled.{goesOn, misledTimes, misledEchoes, misledBy};
+ghost use Rattle.misled.specs.Misled.{sharedOf, goesOn, misledTimes, misledEchoes, misledBy};
 ghost use Rattle.misled.specs.Known.{FirstOne, coveredIn, QuietIn, Over};
 use def_standard::Range;
 use def_wire::Fields;
@@ -28,6 +28,21 @@ fn fields_of(body: &[u8]) -> Fields
         begin: little_endian::u16_from_le_bytes(body, 4),
         end: little_endian::u16_from_le_bytes(body, 6),
         thinning: thinning as u8,
+    }
+}
+
+// The positions that both readings list, as the same numbers: counted from begin, as old readers count.
+fn shared_of(f: Fields) -> Range
+    ensures { λ r. ⌜ r ≡ sharedOf f ⌝ }
+{
+    let g = range::range_of(f);
+    if g.begin == f.begin {
+        return g;
+    }
+    Range {
+        begin: f.begin,
+        size: 0,
+        thinning: f.thinning,
     }
 }
 
@@ -133,7 +148,7 @@ fn stretch(body: &[u8], left: usize, p: u16, at: usize) -> Pass
     Pass { left, p, at }
 }
 
-// Types 1 and 2: whether the crate's list goes on past the range. Stretches are passed at once as long as that can be
+// Types 1 and 2: whether the crate's list goes on past what is shared. Stretches are passed at once as long as that can be
 // done; the words of one that cannot be, those before `singly`, are gone through one by one.
 fn goes_on(body: &[u8], g: Range, end: u16) -> bool
     requires { ⌜ Fielded (now body) 2 ⌝ }
@@ -177,7 +192,7 @@ fn misled_times(f: Fields, own: usize, all: usize) -> bool
     ensures { λ r. ⌜ r ≡ misledTimes f own all ⌝ }
 {
     let listed = utils::lesser(range::first_fail(f.begin, f.end, f.thinning), all);
-    listed != utils::lesser(range::inside_count(range::range_of(f)), own)
+    listed != utils::lesser(range::inside_count(shared_of(f)), own)
 }
 
 // Type 5: the crate takes a block of 1, 5, 9, .. entries, and lists all that stands behind them too.
@@ -203,7 +218,7 @@ pub fn misled(kind: u16, body: &[u8], behind: usize) -> bool
             Kind::Spans(s) => match s {
                 Ranged::Chunks(_) => {
                     let f = fields_of(body);
-                    goes_on(body, range::range_of(f), f.end)
+                    goes_on(body, shared_of(f), f.end)
                 }
                 Ranged::Times => {
                     let own = (body.len() - 10) / 4;

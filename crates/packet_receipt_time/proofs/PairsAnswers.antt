@@ -1,7 +1,7 @@
 -- What a reading is asked, and each way in which a call that lists pairs ends.
 use Prim.Native.Nat.{ℕ, _-_, _%_, _^_, _≤_, _<_, min}
 use native.Mathlib.Nat.{one-mul}
-use mathlib.Core.Path.{_≡_, refl, ap, _∙_}
+use mathlib.Core.Path.{_≡_, refl, sym, ap, _∙_}
 use mathlib.Core.List.{List, map}
 use native.Mathlib.Omega.{arith}
 use lib.ListN.{length, drop, length-map}
@@ -22,39 +22,42 @@ use Rattle.def_wire.specs.Bytes.{words32}
 use Rattle.def_wire.specs.declared.Ranged.the-variants.{Times}
 use Rattle.def_wire.specs.declared.Kind.the-variants.{Spans}
 use Rattle.def_wire.specs.Block.{checkOf, fieldsAt}
-use Rattle.def_standard.specs.declared.Range.{Range}
 use Rattle.def_standard.specs.declared.Receipt.{Receipt}
 use Rattle.def_standard.specs.Range.{rangeOf, numberOf}
 use Rattle.def_crate.specs.Sequence.{doubledOf}
 use Rattle.def_questions.specs.Questions.{pairsIn, pairsShown, ListedPairs}
 use Rattle.def_questions.specs.Packets.{pairsAsked}
+use Rattle.range.specs.Grid.{fromBegin}
 use Rattle.range.specs.Steps.{stepOf}
 use Rattle.range.specs.Failing.{never}
-use Rattle.packet_receipt_time.specs.Pairs.{listable, firstPairs, stepped, numberIn, timeIn, Stored}
+use Rattle.range.proofs.GridLaws.{range-thinning}
+use Rattle.range.proofs.NumberLaws.{numberOf-zero}
+use Rattle.packet_receipt_time.specs.Pairs.{rangeBy, listable, firstPairs, stepped, numberIn, timeIn}
+use Rattle.packet_receipt_time.specs.Pairs.{Stored}
 use Rattle.packet_receipt_time.proofs.PairsLaws.{pairs-standard, pairs-crate, first-all, first-stepped}
 
 -- ---- what is asked
 -- a reading's pairs are the first so many of the times
 pairs-read : (r : Reading) (v : List ℕ) → fieldsAt v .begin < 65536 → fieldsAt v .end < 65536
     → length (words32 (drop 12 v)) ≤ never
-    → pairsIn r v ≡ firstPairs (rangeOf (fieldsAt v)) 0 (listable r (fieldsAt v) - 0) (words32 (drop 12 v))
+    → pairsIn r v ≡ firstPairs (rangeBy r (fieldsAt v)) 0 (listable r (fieldsAt v) - 0) (words32 (drop 12 v))
 pairs-read Standard v b e k = pairs-standard (rangeOf (fieldsAt v)) 0 (words32 (drop 12 v))
 pairs-read Crate v b e k = pairs-crate (fieldsAt v) b e 0 (words32 (drop 12 v)) (omega arith) (omega arith)
 
-range-thinning : (f : Fields) → rangeOf f .thinning ≡ f .thinning
-unfolding rangeOf
-range-thinning f = refl
+thinning-by : (r : Reading) (f : Fields) → rangeBy r f .thinning ≡ f .thinning
+thinning-by Standard f = range-thinning f
+thinning-by Crate f = refl
 
 module _ (r : Reading) (v : List ℕ) where
   -- the list that is shown, from the first number, the step and the count that were found
   pub pairs-fine : checkOf r (Spans Times) v ≡ Fine → fieldsAt v .begin < 65536 → fieldsAt v .end < 65536
       → length (words32 (drop 12 v)) ≤ never
-      → (first step n : ℕ) → first ≡ numberOf (rangeOf (fieldsAt v)) 0 → step ≡ stepOf (fieldsAt v .thinning)
+      → (first step n : ℕ) → first ≡ numberOf (rangeBy r (fieldsAt v)) 0 → step ≡ stepOf (fieldsAt v .thinning)
       → n ≡ min (listable r (fieldsAt v)) (length (words32 (drop 12 v)))
       → pairsShown r v ≡ shown (stepped step first n (words32 (drop 12 v)))
   unfolding pairsShown
   pairs-fine c b e k first step n f s nn =
-      let g = rangeOf (fieldsAt v) in
+      let g = rangeBy r (fieldsAt v) in
       let ts = words32 (drop 12 v) in
       rw c
       (ap shown
@@ -62,13 +65,20 @@ module _ (r : Reading) (v : List ℕ) where
       ∙ ap (λ (m : ℕ). firstPairs g 0 m ts) (let z : listable r (fieldsAt v) - 0 ≡ listable r (fieldsAt v) = omega
       arith in z)
       ∙ first-all g 0 (listable r (fieldsAt v)) ts ∙ first-stepped g 0 (min (listable r (fieldsAt v)) (length ts)) ts
-      ∙ (rw (f, range-thinning (fieldsAt v), s, nn))))
+      ∙ (rw (f, thinning-by r (fieldsAt v), s, nn))))
 
   pub pairs-unfit : (x : Refusal) → checkOf r (Spans Times) v ≡ Unfit x → pairsShown r v ≡ refused x
   unfolding pairsShown
   pairs-unfit x e = rw e
 
--- what a reading lists at most
+-- what a reading counts from
+pub first-standard : (r : Reading) (f : Fields) → r ≡ Standard → numberOf (rangeOf f) 0 ≡ numberOf (rangeBy r f) 0
+first-standard r f e = rw e
+
+pub first-crate : (r : Reading) (f : Fields) → f .begin < 65536 → r ≡ Crate → f .begin ≡ numberOf (rangeBy r f) 0
+first-crate r f h e = rw e (sym (numberOf-zero (fromBegin f) h))
+
+-- what it lists at most
 pub listable-standard : (r : Reading) (f : Fields) → r ≡ Standard → listable Standard f ≡ listable r f
 listable-standard r f e = rw e
 
@@ -133,8 +143,8 @@ module _ (r : Reading) (f : Fields) (v : List ℕ) (read : f ≡ fieldsAt v) whe
       → n ≡ min (listable r (fieldsAt v)) (length (words32 (drop 12 v)))
   count-found n a b e k q = rw (← read) (e ∙ (rw (k, q)))
 
-  pub first-found : (x : ℕ) (g : Range) → x ≡ numberOf g 0 → g ≡ rangeOf f → x ≡ numberOf (rangeOf (fieldsAt v)) 0
-  first-found x g e k = rw (← read) (e ∙ (rw k))
+  pub first-found : (x : ℕ) → x ≡ numberOf (rangeBy r f) 0 → x ≡ numberOf (rangeBy r (fieldsAt v)) 0
+  first-found x e = rw (← read) e
 
   pub step-found : (x : ℕ) → x ≡ doubledOf 1 (f .thinning) → x ≡ stepOf (fieldsAt v .thinning)
   step-found x e = e ∙ ap (λ (a : ℕ). a % 65536) (one-mul (2 ^ (f .thinning)))

@@ -10,13 +10,13 @@ use Rattle.laws.proofs.Tests.{either}
 use Rattle.def_wire.specs.declared.Fields.{Fields}
 use Rattle.def_standard.specs.declared.Range.{Range}
 use Rattle.def_standard.specs.declared.Receipt.{Receipt}
-use Rattle.def_standard.specs.Range.{rangeOf, offsetOf, numberOf}
+use Rattle.def_standard.specs.Range.{offsetOf, numberOf}
 use Rattle.def_standard.specs.Standard.{receipt, pairsFrom}
 use Rattle.def_crate.specs.Sequence.{sequenceOf, passes}
 use Rattle.def_crate.specs.Crate.{cratePairsFrom}
-use Rattle.range.specs.Steps.{onward}
+use Rattle.range.specs.Grid.{fromBegin}
+use Rattle.range.specs.Steps.{stepOf, onward}
 use Rattle.range.specs.Inside.{insideCount}
-use Rattle.range.specs.Steps.{stepOf}
 use Rattle.range.specs.Failing.{firstFail, never}
 use Rattle.range.proofs.InsideLaws.{is-inside, is-outside, numberOf-suc}
 use Rattle.range.proofs.FailLaws.{before-first, at-first}
@@ -89,9 +89,9 @@ pairs-standard g p (t ∷ ts) =
     (rest ∙ first-none g (suc p) (insideCount g - suc p) ts (omega arith)
     ∙ sym (first-none g p (insideCount g - p) (t ∷ ts) (omega arith))))
 
--- ---- the crate reading: its numbers are those of the range
-pub sequence-number : (f : Fields) (p : ℕ) → sequenceOf p (f .begin) (f .thinning) ≡ numberOf (rangeOf f) p
-unfolding numberOf offsetOf rangeOf
+-- ---- the crate reading: its numbers are those of the range that begins with begin
+pub sequence-number : (f : Fields) (p : ℕ) → sequenceOf p (f .begin) (f .thinning) ≡ numberOf (fromBegin f) p
+unfolding numberOf offsetOf
 sequence-number f p =
     let x = p * 2 ^ (f .thinning) in
     let e : (x % 65536 + f .begin) % 65536 ≡ (f .begin + x) % 65536 = omega arith in e
@@ -101,19 +101,19 @@ module _ (f : Fields) (fits : f .begin < 65536) (fits-end : f .end < 65536) wher
   stop = firstFail (f .begin) (f .end) (f .thinning)
 
   pub pairs-crate : (p : ℕ) (ts : List ℕ) → p + length ts ≤ never → p ≤ stop
-      → cratePairsFrom f p ts ≡ firstPairs (rangeOf f) p (stop - p) ts
+      → cratePairsFrom f p ts ≡ firstPairs (fromBegin f) p (stop - p) ts
   unfolding cratePairsFrom
-  pairs-crate p [] k h = sym (first-nil (rangeOf f) p (stop - p))
+  pairs-crate p [] k h = sym (first-nil (fromBegin f) p (stop - p))
   pairs-crate p (t ∷ ts) k h =
       either (ltb p stop)
       (λ b. let l : p < stop = ltb-true _ _ b in
       rw (before-first (f .begin) (f .end) (f .thinning) fits fits-end p l, sequence-number f p)
-      (ap (λ (r : List Receipt). receipt (numberOf (rangeOf f) p) t ∷ r)
+      (ap (λ (r : List Receipt). receipt (numberOf (fromBegin f) p) t ∷ r)
       (pairs-crate (suc p) ts (omega arith) (omega arith))
-      ∙ sym (first-cons (rangeOf f) p (stop - p) (stop - suc p) t ts (omega arith))))
+      ∙ sym (first-cons (fromBegin f) p (stop - p) (stop - suc p) t ts (omega arith))))
       (λ b. let l : stop ≤ p = ltb-false _ _ b in
       let e : p ≡ stop = omega arith in
       let n : stop ≡ never → ⊥ = λ q. omega arith in
       rw (ap (λ (x : ℕ). passes (f .begin) (f .end) (sequenceOf x (f .begin) (f .thinning))) e
       ∙ at-first (f .begin) (f .end) (f .thinning) fits fits-end n)
-      (sym (first-none (rangeOf f) p (stop - p) (t ∷ ts) (omega arith))))
+      (sym (first-none (fromBegin f) p (stop - p) (t ∷ ts) (omega arith))))

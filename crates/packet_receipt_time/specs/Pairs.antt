@@ -1,5 +1,6 @@
 -- What the code computes on its way to the definitions' pairs: both readings list a first stretch of the times, with
 -- numbers one step apart.
+--     rangeBy       the range whose positions a reading counts
 --     listable      how many positions a reading lists from the first on, whatever times there are
 --     firstPairs    the pairs of n positions from p on
 --     stepped       the same by a first number and a step
@@ -15,9 +16,15 @@ use Rattle.def_standard.specs.declared.Range.{Range}
 use Rattle.def_standard.specs.declared.Receipt.{Receipt}
 use Rattle.def_standard.specs.Range.{rangeOf, numberOf}
 use Rattle.def_standard.specs.Standard.{receipt}
+use Rattle.range.specs.Grid.{fromBegin}
 use Rattle.range.specs.Steps.{onward}
 use Rattle.range.specs.Inside.{insideCount}
 use Rattle.range.specs.Failing.{firstFail}
+
+-- the standard's from the grid's first number on, the crate's from begin on
+abbrev pub rangeBy : Reading → Fields → Range
+rangeBy Standard f = rangeOf f
+rangeBy Crate f = fromBegin f
 
 abbrev pub listable : Reading → Fields → ℕ
 listable Standard f = insideCount (rangeOf f)

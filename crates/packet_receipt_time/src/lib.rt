@@ -6,11 +6,11 @@ ghost use mathlib.Core.Path.{_≡_};
 ghost use Prim.Native.Nat.{_+_, _*_, _-_, _/_, _≤_, _<_, _%_, min};
 ghost use lib.ListN.{length, drop};
 ghost use Rattle.def_wire.specs.Bytes.{be32, words32};
-ghost use Rattle.def_standard.specs.Range.{rangeOf, numberOf};
+ghost use Rattle.def_standard.specs.Range.{numberOf};
 ghost use Rattle.def_questions.specs.Questions.{pairsIn, pairsShown, ListedPairs};
 ghost use Rattle.def_questions.specs.Packets.{pairsAsked};
 ghost use Rattle.def_wire.specs.Block.{fieldsAt};
-ghost use Rattle.packet_receipt_time.specs.Pairs.{listable, stepped, Stored};
+ghost use Rattle.packet_receipt_time.specs.Pairs.{rangeBy, listable, stepped, Stored};
 use def_refusals::Answer;
 use def_refusals::Checked;
 use def_refusals::Refusal;
@@ -47,6 +47,16 @@ fn listable_of(r: Reading, f: Fields) -> usize
     }
 }
 
+// The first position's number.
+fn first_of(r: Reading, f: Fields) -> u16
+    ensures { λ n. ⌜ n ≡ numberOf (rangeBy r f) 0 ⌝ }
+{
+    match r {
+        Reading::Standard => range::number_at(range::range_of(f), 0),
+        Reading::Crate => f.begin,
+    }
+}
+
 // Stores n pairs from the front of both lists: numbers one step apart, and times as they stand.
 fn store(v: &[u8], first: u16, step: u16, n: usize, numbers: &mut [u16], times: &mut [u32])
     requires { ⌜ n ≤ length (words32 (drop 12 (now v))) ⌝ }
@@ -80,7 +90,7 @@ pub fn pairs(r: Reading, v: &[u8], numbers: &mut [u16], times: &mut [u32]) -> An
             if room < n {
                 return Answer::Refused(Refusal::NoRoom(n, room));
             }
-            let first = range::number_at(range::range_of(f), 0);
+            let first = first_of(r, f);
             let step = range::doubled(1, f.thinning);
             store(v, first, step, n, numbers, times);
             Answer::Done(n)

@@ -6,7 +6,7 @@
 --     inside-ahead, number-ahead      a position's test and its number, by d
 --     number-grid, listed-grid        every number lies where the first does on the grid; a block's, on it
 --     range-on-grid, begin-on-grid    where begin is on the grid the range is the crate's, and there only
-use Prim.Native.Nat.{ℕ, suc, _+_, _*_, _-_, _/_, _%_, _^_, _≤_, _<_}
+use Prim.Native.Nat.{ℕ, zero, suc, _+_, _*_, _-_, _/_, _%_, _^_, _≤_, _<_, min}
 use mathlib.Core.Path.{_≡_, refl, sym, ap, ap₂, _∙_}
 use mathlib.Core.Bool.{true, false}
 use native.Mathlib.Nat.{mod-eq-of-lt, mod-lt, mod-self, div-add-mod, mul-mod-left, mod-add-mod, add-mul-mod-self-right}
@@ -27,7 +27,7 @@ use Rattle.range.proofs.InsideLaws.{ceil-below, ceil-above, ceil-far}
 
 -- so many whole steps are not rounded off
 ceil-reach : (a m : ℕ) → 0 < m → (q : ℕ) → q * m ≤ a → q ≤ ceilDiv a m
-ceil-reach a m h 0 k = omega arith
+ceil-reach a m h zero k = omega arith
 ceil-reach a m h (suc q) k = ceil-below a m h q (omega arith)
 
 -- ---- how far ahead
@@ -38,7 +38,7 @@ module _ (b t : ℕ) where
 
   pub ahead-on : b % 2 ^ t ≡ 0 → aheadOf b t ≡ 0
   unfolding aheadOf
-  ahead-on e = rw e (mod-self (2 ^ t))
+  ahead-on e = rw (e, sub-zero (2 ^ t)) (mod-self (2 ^ t))
 
   pub ahead-off : (b % 2 ^ t ≡ 0 → ⊥) → aheadOf b t ≡ 2 ^ t - b % 2 ^ t
   unfolding aheadOf
@@ -94,10 +94,10 @@ module _ (b t : ℕ) (h : b < 65536) (k : 16 ≤ t) where
 
 -- so from 17 on every thinning comes to the same
 module _ (b t : ℕ) (h : b < 65536) (k : 17 ≤ t) where
-  pub far-begin : (b + aheadOf b 17) % circle ≡ (b + aheadOf b t) % circle
+  far-begin : (b + aheadOf b 17) % circle ≡ (b + aheadOf b t) % circle
   far-begin = far-first b 17 h (omega arith) ∙ sym (far-first b t h (omega arith))
 
-  pub far-size : (e : ℕ) → sizeOf b e - aheadOf b 17 ≡ sizeOf b e - aheadOf b t
+  far-size : (e : ℕ) → sizeOf b e - aheadOf b 17 ≡ sizeOf b e - aheadOf b t
   far-size e =
       let long : 131072 ≤ 2 ^ t = pow-mono k in
       either (eqb b 0)
@@ -107,6 +107,19 @@ module _ (b t : ℕ) (h : b < 65536) (k : 17 ≤ t) where
       let near = far-sum b 17 h (omega arith) n in
       let far = far-sum b t h (omega arith) n in
       omega arith)
+
+module _ (b t : ℕ) (h : b < 65536) where
+  pub near-begin : (b + aheadOf b (min t 17)) % circle ≡ (b + aheadOf b t) % circle
+  near-begin =
+      either (ltb t 17)
+      (λ u. let l : t < 17 = ltb-true _ _ u in rw (let e : min t 17 ≡ t = omega arith in e))
+      (λ v. let l : 17 ≤ t = ltb-false _ _ v in rw (let e : min t 17 ≡ 17 = omega arith in e) (far-begin b t h l))
+
+  pub near-size : (e : ℕ) → sizeOf b e - aheadOf b (min t 17) ≡ sizeOf b e - aheadOf b t
+  near-size x =
+      either (ltb t 17)
+      (λ u. let l : t < 17 = ltb-true _ _ u in rw (let e : min t 17 ≡ t = omega arith in e))
+      (λ v. let l : 17 ≤ t = ltb-false _ _ v in rw (let e : min t 17 ≡ 17 = omega arith in e) (far-size b t h l x))
 
 -- ---- on the grid
 
@@ -129,6 +142,15 @@ module _ (f : Fields) where
 
   abbrev d : ℕ
   d = aheadOf (f .begin) (f .thinning)
+
+  -- from what was found of it
+  pub range-from : (first size : ℕ) → first ≡ b + aheadOf (f .begin) (min (f .thinning) 17) → f .begin < 65536
+      → size ≡ sizeOf (f .begin) (f .end) - (first - f .begin)
+      → record { begin = first % 65536; size = size; thinning = f .thinning } ≡ rangeOf f
+  unfolding rangeOf
+  range-from first size e h k =
+      let z : first - f .begin ≡ aheadOf (f .begin) (min (f .thinning) 17) = omega arith in
+      rw (k, z, e, near-begin b t h, near-size b t h (f .end))
 
   pub range-thinning : rangeOf f .thinning ≡ f .thinning
   unfolding rangeOf
@@ -197,7 +219,8 @@ module _ (f : Fields) where
         let e : (b + d) % 65536 ≡ b = omega arith in eq-eqb _ _ e ∙ sym u)
         (λ v. let n : d ≡ 0 → ⊥ = eqb-false _ _ v in
         let away : (b + d) % 65536 ≡ b → ⊥ = either (ltb t 16)
-        (λ x. let short : 2 ^ t ≤ 2 ^ 15 = pow-mono (let l : t ≤ 15 = omega (arith, ltb-true _ _ x) in l) in
+        (λ x. let less : t < 16 = ltb-true _ _ x in
+        let short : 2 ^ t ≤ 2 ^ 15 = pow-mono (let l : t ≤ 15 = omega arith in l) in
         let l = ahead-less b t in λ e. omega arith)
         (λ y. let k : 16 ≤ t = ltb-false _ _ y in
         λ e. n (far-zero b t fits k (sym e ∙ far-first b t fits k))) in

@@ -71,7 +71,7 @@ returns-2 c = let r = c .before in
     let g = t .before .before .before in
     let f = kind g in
     let e = misled-as (job f) (start f .args .behind) (good f) (spans g _ (t .enum-told .given .1)) in
-    c .goes-on .ensures ∙ (rw (r .range-of .ensures, d .fields-of .ensures) e)
+    c .goes-on .ensures ∙ (rw (r .shared-of .ensures, d .fields-of .ensures) e)
 
 returns-3 : tie.Need-returns-3
 returns-3 c = let d = c .before in

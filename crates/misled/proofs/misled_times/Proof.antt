@@ -12,7 +12,7 @@ returns c = let n = c .before in
     rw (
       c .lesser2 .ensures,
       n .inside-count .ensures,
-      g .range-of .ensures,
+      g .shared-of .ensures,
       l .lesser .ensures,
       l .before .first-fail .ensures,
     )

@@ -5,14 +5,15 @@ use mathlib.Core.List.{List}
 use native.Mathlib.Omega.{arith}
 use lib.ListN.{length, drop, length-drop}
 use Rattle.def_refusals.specs.Answers.{shown}
+use Rattle.def_wire.specs.declared.Reading.{Reading}
 use Rattle.def_wire.specs.Bytes.{words32}
 use Rattle.def_wire.specs.Block.{fieldsAt}
-use Rattle.def_standard.specs.Range.{rangeOf, numberOf}
+use Rattle.def_standard.specs.Range.{numberOf}
 use Rattle.def_questions.specs.Questions.{pairsShown}
 use Rattle.utils.proofs.BytesLaws.{length-words32, Bytes, be16-lt}
 use Rattle.range.specs.Steps.{stepOf}
 use Rattle.range.specs.Failing.{never}
-use Rattle.packet_receipt_time.specs.Pairs.{listable, stepped}
+use Rattle.packet_receipt_time.specs.Pairs.{rangeBy, listable, stepped}
 use Rattle.packet_receipt_time.proofs.PairsLaws.{length-stepped}
 use Rattle.packet_receipt_time.proofs.PairsAnswers.{pairs-fine, pairs-unfit, pairs-listed, pairs-full}
 use Rattle.packet_receipt_time.proofs.PairsAnswers.{pairs-refused, count-found, first-found, step-found}
@@ -22,6 +23,9 @@ use Rattle.packet_receipt_time.proofs.pairs.Tie as tie
 
 abbrev v-of : tie.After-lesser → List ℕ
 v-of c = c .before .before .before .before .before .before .before .before .before .before .args .v .now
+
+abbrev r-of : tie.After-lesser → Reading
+r-of c = c .before .before .before .before .before .before .before .before .before .before .args .r
 
 abbrev times-of : tie.After-lesser → List ℕ
 times-of c = words32 (drop 12 (v-of c))
@@ -41,10 +45,9 @@ counted c =
     (k .times-count .ensures)
 
 -- what is shown, by a first number and a step
-asked : (c : tie.After-lesser) (first step : ℕ) → first ≡ numberOf (rangeOf (fieldsAt (v-of c))) 0
+asked : (c : tie.After-lesser) (first step : ℕ) → first ≡ numberOf (rangeBy (r-of c) (fieldsAt (v-of c))) 0
     → step ≡ stepOf (fieldsAt (v-of c) .thinning)
-    → let h = c .before .before .before .before .before .before in
-    pairsShown (h .before .before .before .before .args .r) (v-of c) ≡ shown
+    → pairsShown (r-of c) (v-of c) ≡ shown
     (stepped step first (c .lesser .result) (times-of c))
 asked c first step p q =
     let f = c .before .before .before in
@@ -69,7 +72,7 @@ returns : tie.Need-returns
 returns c = let m = c .before in
     let n = m .before in
     let a = n .before .before .before .before .before .before .before .before .before .before .args in
-    let first = numberOf (rangeOf (fieldsAt (v-of n))) 0 in
+    let first = numberOf (rangeBy (r-of n) (fieldsAt (v-of n))) 0 in
     let step = stepOf (fieldsAt (v-of n) .thinning) in
     pairs-full _ (a .numbers .now) (a .times .now) (stepped step first (n .lesser .result) (times-of n))
     (n .lesser .result) (m .lesser2 .result) (asked n first step refl refl) (long n first step) (m .lesser2 .ensures)
@@ -79,19 +82,18 @@ returns-2 : tie.Need-returns-2
 returns-2 c = let st = c .before .before .before .before in
     let d = st .before .before .before in
     let x = d .before in
-    let g = x .before in
-    let e = g .before in
+    let e = x .before in
     let m = e .before in
     let n = m .before in
     let f = n .before .before .before in
     let a = n .before .before .before .before .before .before .before .before .before .before .args in
-    let first = first-found (a .r) (f .fields-at .result) (a .v .now) (f .fields-at .ensures) (x .number-at .result)
-    (g .range-of .result) (x .number-at .ensures) (g .range-of .ensures) in
+    let first = first-found (a .r) (f .fields-at .result) (a .v .now) (f .fields-at .ensures) (x .first-of .result)
+    (x .first-of .ensures) in
     let step = step-found (a .r) (f .fields-at .result) (a .v .now) (f .fields-at .ensures) (d .doubled .result)
     (d .doubled .ensures) in
     pairs-listed _ (a .numbers .now) (a .times .now) _ (n .lesser .result) _ _
-    (asked n (x .number-at .result) (d .doubled .result) first step)
-    (long n (x .number-at .result) (d .doubled .result)) (omega (arith, e .if1 .left, m .lesser2 .ensures))
+    (asked n (x .first-of .result) (d .doubled .result) first step)
+    (long n (x .first-of .result) (d .doubled .result)) (omega (arith, e .if1 .left, m .lesser2 .ensures))
     (st .store .ensures)
 
 returns-3 : tie.Need-returns-3
@@ -106,5 +108,5 @@ pairs-spec =
     tie.close
     (tie.spec (λ c κs. search needs) (λ c. search needs) (λ c κs. search needs) (λ c κs. search needs)
     (λ c κs. search needs) (λ c κs. search needs) (λ c κs. search needs) returns (λ c κs. search needs)
-    (λ c κs. search needs) (λ c κs. search needs) (λ c κs. search needs) (λ c. search needs) (λ c. search needs)
-    (λ c. search needs) returns-2 returns-3)
+    (λ c κs. search needs) (λ c κs. search needs) (λ c. search needs) (λ c. search needs) (λ c. search needs) returns-2
+    returns-3)
