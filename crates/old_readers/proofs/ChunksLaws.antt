@@ -1,18 +1,18 @@
 -- What refusal 15 comes to for types 1 and 2: the careful block of a record, read by the standard, and by the crate
 -- with any bytes behind it. Assumes nothing.
 --     chunksBlock        the block
---     standard-first     the standard's list is a prefix of the crate's
+--     crate-same         where the block does not mislead, the crate lists what the standard does
 --     crate-shows        the crate takes the block
 --     chunks-mislead     what is shown differs exactly where `misledWords` says so
 use Prim.Native.Nat.{ℕ, zero, suc, _*_, _-_, _≤_, _<_}
 use mathlib.Core.Path.{_≡_, refl, ap, _∙_}
-use mathlib.Core.Bool.{Bool, true, not}
+use mathlib.Core.Bool.{true, false, not}
 use mathlib.Core.List.{List, [], _∷_, _++_, append-nil}
 use native.Mathlib.Omega.{arith}
 use lib.ListN.{length, take, drop, replicate, getD-replicate, length-replicate}
 use lib.Seq.{take-nil, take-append-le}
 use lib.Dec.{eqb}
-use borrow.Author.Tests.{eqb-true, eq-eqb, le-leb}
+use borrow.Author.Tests.{eqb-true, eq-eqb, le-leb, not-false}
 use Rattle.laws.proofs.Tests.{both}
 use Rattle.def_refusals.specs.declared.Checked.the-variants.{Fine}
 use Rattle.def_refusals.specs.Answers.{shown}
@@ -42,8 +42,8 @@ use Rattle.written.proofs.RecordsLaws.{Body}
 use Rattle.written.proofs.WordsLaws.{under-low16, block-words, words-even}
 use Rattle.written.proofs.BlockLaws.{Fits, kind-rle, fields-back}
 use Rattle.written.proofs.JobLaws.{job-fits, words-good, laid-as}
-use Rattle.old_readers.proofs.Same.{same-self, same-more}
-use Rattle.old_readers.proofs.GoesOnLaws.{isSome, Leads, standard-leads}
+use Rattle.old_readers.proofs.Same.{same-row, same-front}
+use Rattle.old_readers.proofs.ApartLaws.{lists-differ}
 
 -- ---- all words but the last
 
@@ -100,14 +100,10 @@ careful-numbers end t start ws =
 
 -- ---- two reports with the same fields
 
-rows-differ : (l more : List ℕ) → not (sameRow (l ++ more) l) ≡ isSome more
-rows-differ l [] = rw (append-nil l, same-self l)
-rows-differ l (x ∷ more) = rw (same-more l x more)
-
-reports-differ : (a : Rle) (f : Fields) {l whole : List ℕ} {on : Bool} → Leads l whole on
-    → not (sameRecord (reported a f whole) (reported a f l)) ≡ on
+same-reported : (a : Rle) (f : Fields) (l m : List ℕ)
+    → sameRecord (reported a f l) (reported a f m) ≡ sameRow l m
 unfolding numbersRow
-reports-differ a f {l} h = rw (← h .split) (rows-differ (rleType a ∷ rowOf f l) (h .more)) ∙ h .goes
+same-reported a f l m = same-front (rleType a ∷ rowOf f []) l m
 
 -- ---- the block
 
@@ -161,19 +157,25 @@ module _ (a : Rle) (j : Job) (good : isBody (AKind (Spans (Chunks a))) j ≡ tru
       ∙ ap (crateNumbersFrom (f .end) (f .thinning) (f .begin)) words-read
       ∙ careful-numbers (f .end) (f .thinning) (f .begin) ws
 
-  -- the standard's list is a prefix of the crate's
-  pub standard-first : Leads (numbersOf (rangeOf (jobFields j)) (jobWords j)) (crateNumbers (chunksBlock a j ++ rest))
-      (misledWords (jobFields j) (jobWords j))
-  standard-first = rw numbers-shown (standard-leads f (held .begin) (held .end) ws)
+  -- what the two readings list differs where `misledWords` says so
+  lists-apart : not (sameRow (crateNumbers view) (numbersOf (rangeOf f) ws)) ≡ misledWords f ws
+  lists-apart =
+      let thin = held .thinning in
+      rw numbers-shown (lists-differ f (held .begin) (held .end) (omega arith) ws)
+
+  -- so where it does not mislead, an old reader lists what the standard does
+  pub crate-same : misledWords (jobFields j) (jobWords j) ≡ false
+      → crateNumbers (chunksBlock a j ++ rest) ≡ numbersOf (rangeOf (jobFields j)) (jobWords j)
+  crate-same e =
+      same-row (crateNumbers view) (numbersOf (rangeOf f) ws) (not-false _ (lists-apart ∙ e))
 
   pub crate-shows : recordOf Crate (chunksBlock a j ++ rest) ≡ shown (reported a f (crateNumbers view))
   unfolding recordOf fieldsOf numbersShown
   crate-shows =
       rw (kind-rle a, check-fine) (ap (λ (x : Fields). shown (reported a x (crateNumbers view))) fields-shown)
 
-  -- so only more can mislead
   pub chunks-mislead : differs (recordOf Crate (chunksBlock a j ++ rest)) (recordOf Standard (chunksBlock a j))
       ≡ misledWords (jobFields j) (jobWords j)
   chunks-mislead =
       rw (crate-shows, laid-as (AKind (Spans (Chunks a))) Careful j good body .shows)
-      (reports-differ a f standard-first)
+      (ap not (same-reported a f (crateNumbers view) (numbersOf (rangeOf f) ws)) ∙ lists-apart)

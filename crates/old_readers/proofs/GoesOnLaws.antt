@@ -1,7 +1,7 @@
--- Types 1 and 2: the standard's list of words is a prefix of the crate's, which is longer exactly where `goesOn` says
--- so. The one place that unfolds `goesOn`. Assumes nothing.
+-- Types 1 and 2: what words list in a range that begins with begin is a prefix of the crate's list, which is longer
+-- exactly where `goesOn` says so. The one place that unfolds `goesOn`. Assumes nothing.
 --     isSome, Leads      a list comes first in another, and a test tells whether there is more behind it
---     standard-leads     the standard's list of words leads the crate's
+--     words-lead         what words list in such a range leads the crate's list
 use Prim.Native.Nat.{ℕ, zero, suc, _+_, _*_, _%_, _^_, _≤_, _<_}
 use mathlib.Core.Path.{_≡_, refl, sym, ap, _∙_}
 use mathlib.Core.Bool.{Bool, true, false, cond}
@@ -12,11 +12,10 @@ use lib.ListN.{length}
 use lib.Dec.{ltb, eqb, lit<}
 use borrow.Author.Tests.{lt-ltb, le-ltb, ltb-true, ltb-false, eqb-true, eqb-false}
 use Rattle.laws.proofs.Tests.{either}
-use Rattle.def_wire.specs.declared.Fields.{Fields}
 use Rattle.def_standard.specs.declared.Range.{Range}
 use Rattle.def_standard.specs.Chunks.{coversOf, valuesIn}
 use Rattle.def_standard.specs.Listing.{listFrom}
-use Rattle.def_standard.specs.Range.{sizeOf, rangeOf, offsetOf, inside, numberOf}
+use Rattle.def_standard.specs.Range.{sizeOf, offsetOf, inside, numberOf}
 use Rattle.def_standard.specs.Standard.{numbersFrom, numbersOf}
 use Rattle.def_crate.specs.Sequence.{sequenceOf, passes, movedBy}
 use Rattle.def_crate.specs.Crate.{Try, whileFrom, onesIn, tryAt, triesFrom, crateNumbersFrom}
@@ -29,7 +28,7 @@ use Rattle.range.proofs.SequenceLaws.{moved-sequence}
 use Rattle.range.proofs.NumberLaws.{numberOf-zero, numberOf-on}
 use Rattle.ones.specs.Places.{numbersIn}
 use Rattle.ones.proofs.NumbersLaws.{numbers-nil, numbers-cons, numbersIn-outside, numbers-outside}
-use Rattle.misled.specs.Misled.{outsideFrom, goesOn, misledWords}
+use Rattle.misled.specs.Misled.{outsideFrom, goesOn}
 
 -- ---- a list that comes first in another
 
@@ -62,40 +61,26 @@ size-gap b e h k =
 gap-near : (b e x y : ℕ) → b < 65536 → e < 65536 → x + y < gapOf b e → y < gapOf ((b + x) % 65536) e
 gap-near b e x y h k l = omega arith
 
-module _ (f : Fields) (begin-fits : f .begin < 65536) (end-fits : f .end < 65536) where
+-- a range of some of the numbers from begin to before end
+module _ (begin end t size : ℕ) (begin-fits : begin < 65536) (end-fits : end < 65536) (few : size ≤ sizeOf begin end)
+    where
   abbrev g : Range
-  g = rangeOf f
+  g = record { begin = begin; size = size; thinning = t }
 
-  abbrev end : ℕ
-  end = f .end
-
-  abbrev t : ℕ
-  t = f .thinning
-
-  -- position 0 has the number begin
-  number-first : numberOf g 0 ≡ f .begin
-  unfolding rangeOf
-  number-first = numberOf-zero g begin-fits
-
-  -- a place's number, tried from position p's, is that of the position as many on
-  number-on : (p q : ℕ) → sequenceOf q (numberOf g p) t ≡ numberOf g (p + q)
-  unfolding rangeOf
-  number-on p q = numberOf-on g p q
-
-  -- and passes where that is inside
+  -- a place's number, tried from position p's, passes where that of the position as many on is inside
   inside-passes : (p q : ℕ) → inside g (p + q) ≡ true
       → passes (numberOf g p) end (sequenceOf q (numberOf g p) t) ≡ true
-  unfolding inside offsetOf rangeOf numberOf
+  unfolding inside offsetOf numberOf
   inside-passes p q h =
       let m = 2 ^ t in
-      let near : (p + q) * m < sizeOf (f .begin) end = ltb-true _ _ h in
-      let size = size-gap (f .begin) end begin-fits end-fits in
-      let high = gap-high (f .begin) end begin-fits end-fits in
+      let near : (p + q) * m < size = ltb-true _ _ h in
+      let whole = size-gap begin end begin-fits end-fits in
+      let high = gap-high begin end begin-fits end-fits in
       let e : (p + q) * m ≡ p * m + q * m = omega arith in
       let low : q * m < 65536 = omega arith in
-      let less = gap-near (f .begin) end (p * m) (q * m) begin-fits end-fits (omega arith) in
+      let less = gap-near begin end (p * m) (q * m) begin-fits end-fits (omega arith) in
       rw (mod-eq-of-lt low)
-      (passes-near (numberOf g p) end (mod-lt (f .begin + p * m) (lit< tt)) end-fits (q * m) less)
+      (passes-near (numberOf g p) end (mod-lt (begin + p * m) (lit< tt)) end-fits (q * m) less)
 
   -- ---- value by value
 
@@ -131,10 +116,10 @@ module _ (f : Fields) (begin-fits : f .begin < 65536) (end-fits : f .end < 65536
         let past : q < q + suc (length vs) = omega arith in
         either (eqb v 1)
         (λ one. either (inside g (p + q))
-        (λ near. rw (one, near, same, inside-passes p q near, number-on p q)
+        (λ near. rw (one, near, same, inside-passes p q near, numberOf-on g p q)
         (leads-cons (numberOf g (p + q)) (rw next at (led (suc k)))))
         (λ out. let far : insideCount g ≤ p + q = ltb-false _ _ (sym (inside-count g (p + q)) ∙ out) in
-        rw (one, out, lt-ltb _ _ past, last far, numbersIn-outside g (suc (p + q)) vs (omega arith), number-on p q)
+        rw (one, out, lt-ltb _ _ past, last far, numbersIn-outside g (suc (p + q)) vs (omega arith), numberOf-on g p q)
         (leads-test (passes (numberOf g p) end (numberOf g (p + q))) _ _)))
         (λ zero. rw (zero, same) (rw next at (led k)))
 
@@ -154,7 +139,7 @@ module _ (f : Fields) (begin-fits : f .begin < 65536) (end-fits : f .end < 65536
   word-led k p w ws led =
       let next = p + coversOf w in
       let moved : movedBy (coversOf w) t (numberOf g p) ≡ numberOf g next =
-      moved-sequence (coversOf w) t (numberOf g p) ∙ number-on p (coversOf w) in
+      moved-sequence (coversOf w) t (numberOf g p) ∙ numberOf-on g p (coversOf w) in
       let covers : coversOf w ≡ 0 + length (valuesIn w) = omega (arith, length-valuesIn w) in
       let last : insideCount g ≤ p + (0 + length (valuesIn w)) → numbersFrom g next ws ≡ [] =
       λ n. numbers-outside g next ws (omega arith) in
@@ -166,7 +151,8 @@ module _ (f : Fields) (begin-fits : f .begin < 65536) (end-fits : f .end < 65536
   words-led k p [] = rw (numbers-nil g p) (record { more = []; split = refl; goes = refl })
   words-led k p (w ∷ ws) = word-led k p w ws (λ i. words-led i (p + coversOf w) ws)
 
-  pub standard-leads : (ws : List ℕ)
-      → Leads (numbersOf (rangeOf f) ws) (crateNumbersFrom (f .end) (f .thinning) (f .begin) ws) (misledWords f ws)
+  pub words-lead : (ws : List ℕ)
+      → Leads (numbersOf (record { begin = begin; size = size; thinning = t }) ws) (crateNumbersFrom end t begin ws)
+      (goesOn (record { begin = begin; size = size; thinning = t }) end 0 ws)
   unfolding crateNumbersFrom
-  standard-leads ws = rw number-first at (words-led 0 0 ws)
+  words-lead ws = rw (numberOf-zero g begin-fits) at (words-led 0 0 ws)

@@ -3,6 +3,7 @@
 -- reading of a carefully written packet), FaultLaws (15 by its records).
 pub mod Same
 pub mod GoesOnLaws
+pub mod ApartLaws
 pub mod ChunksLaws
 pub mod TimesLaws
 pub mod OtherLaws

@@ -1,5 +1,6 @@
 -- When two records are the same. Assumes nothing.
 --     same-self, same-more     a row of numbers is the same as itself, and as no longer one
+--     same-row                 rows that are the same are equal
 --     same-front               what stands in front of two rows does not matter
 --     same-received            records of type 3 with the same fields are the same where their pairs are
 --     same-record              records that are the same are equal
@@ -50,7 +51,7 @@ unfolding numbersRow
 same-received f l m =
     same-front (receiptType ∷ f .ssrc ∷ f .begin ∷ f .end ∷ f .thinning ∷ []) (receiptRow l) (receiptRow m)
 
-same-row : (l m : List ℕ) → sameRow l m ≡ true → l ≡ m
+pub same-row : (l m : List ℕ) → sameRow l m ≡ true → l ≡ m
 same-row [] [] h = refl
 same-row [] (y ∷ m) h = true≢false h
 same-row (x ∷ l) [] h = true≢false h

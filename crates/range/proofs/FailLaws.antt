@@ -3,6 +3,7 @@
 --     before-first      every place before `firstFail` passes
 --     at-first          `firstFail` itself fails, unless it is `never`
 --     never-fails       where it is, every place passes
+--     first-pos         place 0 passes
 use Prim.Native.Nat.{ℕ, _+_, _*_, _-_, _%_, _^_, _≤_, _<_}
 use mathlib.Core.Path.{_≡_, refl, ap, _∙_}
 use mathlib.Core.Bool.{true, false}
@@ -11,7 +12,7 @@ use native.Mathlib.Omega.{arith}
 use lib.Dec.{ltb, leb, lit<}
 use lib.Pow.{pow-pos, pow-mono, pow-add, mod-pow-add, shl-shr, shl-exact}
 use borrow.Author.Tests.{lt-ltb, le-ltb, le-leb, lt-leb, ltb-true, ltb-false, leb-true, leb-false}
-use Rattle.laws.proofs.Tests.{either}
+use Rattle.laws.proofs.Tests.{either, both}
 use Rattle.def_crate.specs.Sequence.{passes, sequenceOf, doubledOf}
 use Rattle.range.specs.Inside.{ceilDiv}
 use Rattle.range.specs.Failing.{gapOf, againOf, never, firstFail}
@@ -93,6 +94,9 @@ module _ (start end t : ℕ) (s : start < 65536) (e : end < 65536) where
   abbrev first : ℕ
   first = ceilDiv gap (2 ^ t)
 
+  first-one : 0 < first
+  first-one = ceil-below gap (2 ^ t) (pow-pos t) 0 (omega (arith, gap-low start end s e))
+
   -- a place nearer than end
   near : (q : ℕ) → q < first → passes start end (sequenceOf q start t) ≡ true
   near q h =
@@ -136,6 +140,12 @@ module _ (start end t : ℕ) (s : start < 65536) (e : end < 65536) where
       rw (mod-eq-of-lt l) (passes-between start end s e (first * 2 ^ t) g k)))
       (λ v. rw v (λ n. absurd (n refl)))
 
+  -- place 0 passes
+  pub first-pos : 0 < firstFail start end t
+  unfolding firstFail
+  first-pos =
+      both (λ (n : ℕ). 0 < n) (ltb (first * 2 ^ t) (againOf start end)) (λ _. first-one) (λ _. omega arith)
+
   -- where it is, every place passes
   pub never-fails : firstFail start end t ≡ never → (q : ℕ) → passes start end (sequenceOf q start t) ≡ true
   unfolding firstFail
@@ -157,7 +167,7 @@ module _ (start end t : ℕ) (s : start < 65536) (e : end < 65536) where
   pub first-nowhere : 16 ≤ t → never ≡ firstFail start end t
   first-nowhere h =
       let p : 2 ^ 16 ≤ 2 ^ t = pow-mono h in
-      let one : 0 < first = ceil-below gap (2 ^ t) (pow-pos t) 0 (omega (arith, gap-low start end s e)) in
+      let one : 0 < first = first-one in
       let l : 1 * 2 ^ t ≤ first * 2 ^ t = mul-le-mul-right (2 ^ t) one in
       first-never (omega (arith, again-high start end s e, l, p))
 
