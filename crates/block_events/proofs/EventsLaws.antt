@@ -8,7 +8,6 @@ use mathlib.Core.List.{List, [], _∷_, map}
 use native.Mathlib.Omega.{arith}
 use lib.ListN.{length, take, drop, length-drop, length-map}
 use lib.Seq.{take-all}
-use lib.Dec.{eqb}
 use borrow.Author.Tests.{le-leb, lt-leb}
 use Rattle.def_wire.specs.declared.Ranged.{Ranged}
 use Rattle.def_wire.specs.declared.Ranged.the-variants.{Chunks, Times}
@@ -30,7 +29,7 @@ use Rattle.utils.proofs.BytesLaws.{length-words32}
 use Rattle.range.specs.Inside.{insideCount}
 use Rattle.range.specs.Steps.{stepOf}
 use Rattle.range.proofs.InsideLaws.{inside-count-le}
-use Rattle.laws.proofs.Tests.{both}
+use Rattle.range.proofs.GridLaws.{range-size}
 use Rattle.ones.proofs.NumbersLaws.{length-numbers}
 use Rattle.packet_receipt_time.specs.Pairs.{stepped}
 use Rattle.packet_receipt_time.proofs.PairsLaws.{pairs-standard, first-all, first-stepped, length-stepped}
@@ -81,16 +80,11 @@ module _ (v : List ℕ) where
       let h : length (drop 12 v) ≤ length v = omega (arith, length-drop 12 v) in
       rw (k, e, w, take-all (length v) (drop 12 v) h)
 
-  range-size : rangeOf (fieldsAt v) .size ≤ circle
-  unfolding rangeOf
-  range-size = both (λ (n : ℕ). n ≤ circle) (eqb (fieldsAt v .begin) (fieldsAt v .end)) (λ _. omega arith)
-      (λ _. omega arith)
-
   -- no more than the circle has
   pub numbers-few : length (standardNumbers v) ≤ circle
   numbers-few =
       let g = rangeOf (fieldsAt v) in
-      omega (arith, length-numbers g (standardWords v), inside-count-le g, range-size)
+      omega (arith, length-numbers g (standardWords v), inside-count-le g, range-size (fieldsAt v))
 
   -- ---- the pairs
 

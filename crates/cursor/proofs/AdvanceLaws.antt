@@ -11,9 +11,7 @@ use mathlib.Core.List.{List}
 use native.Mathlib.Omega.{arith}
 use lib.ListN.{length, drop, length-drop}
 use lib.Seq.{take-all}
-use lib.Dec.{eqb}
 use borrow.Author.Tests.{le-leb, lt-leb}
-use Rattle.laws.proofs.Tests.{both}
 use Rattle.def_refusals.specs.declared.Refusal.{Refusal}
 use Rattle.def_refusals.specs.declared.Refusal.the-variants.{NoPlace, NoRoom}
 use Rattle.def_refusals.specs.declared.Checked.the-variants.{Fine, Unfit}
@@ -30,6 +28,7 @@ use Rattle.def_standard.specs.Range.{circle, rangeOf}
 use Rattle.def_standard.specs.Standard.{standardWords}
 use Rattle.range.specs.Inside.{insideCount}
 use Rattle.range.proofs.InsideLaws.{inside-count-le}
+use Rattle.range.proofs.GridLaws.{range-size}
 use Rattle.def_cursor.specs.declared.Cursor.{Cursor}
 use Rattle.def_cursor.specs.declared.Stretch.{Stretch}
 use Rattle.def_cursor.specs.declared.Advanced.{Advanced}
@@ -38,10 +37,6 @@ use Rattle.def_cursor.specs.Cursor.{legal, advanceFault, advanceOf, stretchFill
 use Rattle.cursor.specs.Steps.{Gone, Advancing}
 
 -- no range has over 65,536 positions inside
-range-size : (f : Fields) → rangeOf f .size ≤ circle
-unfolding rangeOf
-range-size f = both (λ (n : ℕ). n ≤ circle) (eqb (f .begin) (f .end)) (λ _. omega arith) (λ _. omega arith)
-
 pub range-fits : (f : Fields) → insideCount (rangeOf f) ≤ circle
 range-fits f = omega (arith, range-size f, inside-count-le (rangeOf f))
 

@@ -14,7 +14,7 @@ use Rattle.def_wire.specs.Block.{rleOf, rangedOf, kindOf, standardRule, fitness
 use Rattle.def_wire.specs.Block.{has, clearRule}
 use Rattle.def_wire.specs.Summary.{byteSpread, summaryFrom, summaryOf}
 use Rattle.def_standard.specs.Chunks.{valuesIn}
-use Rattle.def_standard.specs.Range.{rangeOf, offsetOf, inside, numberOf}
+use Rattle.def_standard.specs.Range.{aheadOf, rangeOf, offsetOf, inside, numberOf}
 use Rattle.def_standard.specs.Standard.{valuesOf, numbersFrom, pairsFrom, echoesOf}
 use Rattle.def_questions.specs.Questions.{numbersShown, pairsShown, entriesShown}
 use Rattle.def_portions.specs.declared.Event.the-variants.{Header, Start, Ranged as RangedStart, Number, Pair}
@@ -44,7 +44,7 @@ whole-packet : wholeOf packet 5
     ∷ Start 99 4
     ∷ End
     ∷ []
-unfolding pairUp placeOf rleOf rangedOf kindOf standardRule fitness checkOf fieldsOf timeOf valuesIn rangeOf offsetOf
+unfolding pairUp placeOf rleOf rangedOf kindOf standardRule fitness checkOf fieldsOf timeOf valuesIn aheadOf rangeOf offsetOf
     inside numberOf valuesOf numbersFrom pairsFrom echoesOf numbersShown pairsShown entriesShown kindPart partsFrom
     has clearRule
 whole-packet = refl

@@ -18,14 +18,17 @@ use Rattle.def_standard.specs.Chunks.{coversOf}
 use Rattle.def_standard.specs.Listing.{listFrom}
 use Rattle.def_standard.specs.Range.{circle, sizeOf, rangeOf, offsetOf, numberOf}
 use Rattle.def_standard.specs.Standard.{valuesOf, numbersFrom, numbersOf}
+use Rattle.range.specs.Grid.{fromBegin}
 use Rattle.range.specs.Steps.{stepOf}
 use Rattle.range.specs.Inside.{ceilDiv, insideCount}
+use Rattle.range.proofs.GridLaws.{ahead-whole, range-on-grid}
 use Rattle.ones.specs.Along.{along}
 use Rattle.ones.specs.Places.{numbersIn}
 use Rattle.ones.proofs.ListingLaws.{along-padded}
 use Rattle.ones.proofs.NumbersLaws.{numbers-along}
 use Rattle.misled.specs.Known.{FirstOne}
-use Rattle.misled.specs.Misled.{outsideAt, goesOn}
+use Rattle.misled.specs.Misled.{outsideAt, goesOn, misledWords}
+use Rattle.misled.proofs.MisledLaws.{shared-on}
 use Rattle.misled.proofs.OutsideLaws.{outside-none}
 use Rattle.def_marks.specs.Marks.{wordFor, takenBy, wordsOf}
 use Rattle.def_marks.specs.Report.{endOf, heardOf}
@@ -91,13 +94,23 @@ abbrev pub heardFields : ℕ → ℕ → List ℕ → Fields
 heardFields s b ms = record { ssrc = s; begin = b; end = endOf b ms; thinning = 0 }
 
 module _ (s b : ℕ) (ms : List ℕ) (h : b < 65536) (k : length ms ≤ 65536) (marks : Marks ms) where
-  all-inside : length ms ≤ insideCount (rangeOf (heardFields s b ms))
-  unfolding rangeOf insideCount ceilDiv
+  -- nothing is thinned, so its range begins with b
+  abbrev f : Fields
+  f = heardFields s b ms
+
+  whole-range : rangeOf f ≡ fromBegin f
+  whole-range = range-on-grid f h (ahead-whole b)
+
+  all-inside : length ms ≤ insideCount (fromBegin f)
+  unfolding insideCount ceilDiv
   all-inside = omega (arith, size-reaches b (length ms) h k)
 
   pub numbers-heard : numbersOf (rangeOf (heardFields s b ms)) (wordsOf ms) ≡ heardOf b ms
-  unfolding rangeOf offsetOf numberOf heardOf
-  numbers-heard = numbers-marks (rangeOf (heardFields s b ms)) ms marks all-inside ∙ sym (heard-along b 0 ms)
+  unfolding offsetOf numberOf heardOf
+  numbers-heard =
+      rw whole-range (numbers-marks (fromBegin f) ms marks all-inside) ∙ sym (heard-along b 0 ms)
 
-  pub quiet-heard : goesOn (rangeOf (heardFields s b ms)) (endOf b ms) 0 (wordsOf ms) ≡ false
-  quiet-heard = quiet-words (rangeOf (heardFields s b ms)) (endOf b ms) ms marks 0 (omega (arith, all-inside))
+  pub quiet-heard : misledWords (heardFields s b ms) (wordsOf ms) ≡ false
+  quiet-heard =
+      rw (shared-on f (ahead-whole b), whole-range)
+      (quiet-words (fromBegin f) (endOf b ms) ms marks 0 (omega (arith, all-inside)))

@@ -4,13 +4,13 @@
 --     report-asks        its one record asks for the numbers heard
 --     report-old         an old reader of the careful packet shows the same
 use Prim.Native.Nat.{ℕ, _+_, _-_, _≤_, _<_}
-use mathlib.Core.Path.{_≡_, refl, sym, ap, ap₂, _∙_}
+use mathlib.Core.Path.{_≡_, refl, ap, ap₂, _∙_}
 use mathlib.Core.Bool.{Bool, true, false, cond, _&&_}
-use mathlib.Core.List.{List, [], _∷_, _++_, append-nil}
+use mathlib.Core.List.{List, [], _∷_, _++_}
 use native.Mathlib.Omega.{arith}
 use lib.ListN.{length, length-append}
 use borrow.Author.Tests.{le-ltb}
-use Rattle.laws.proofs.Tests.{and-false-r, true≢false}
+use Rattle.laws.proofs.Tests.{and-false-r}
 use Rattle.def_refusals.specs.declared.Refusal.the-variants.{Misleads}
 use Rattle.def_refusals.specs.declared.Checked.the-variants.{Fine, Unfit}
 use Rattle.def_refusals.specs.Answers.{shown}
@@ -35,8 +35,7 @@ use Rattle.misled.specs.Misled.{misledWords, misledBy, misledFault}
 use Rattle.written.proofs.Lists.{Each}
 use Rattle.written.proofs.RecordsLaws.{Body, layoutFault, Fit, fit}
 use Rattle.old_readers.proofs.FaultLaws.{careful-fault}
-use Rattle.old_readers.proofs.GoesOnLaws.{isSome}
-use Rattle.old_readers.proofs.ChunksLaws.{chunksBlock, standard-first, crate-shows}
+use Rattle.old_readers.proofs.ChunksLaws.{chunksBlock, crate-same, crate-shows}
 use Rattle.def_marks.specs.Marks.{wordsOf}
 use Rattle.def_marks.specs.Report.{endOf, reportOf, heardOf}
 use Rattle.marked.specs.Marked.{Marks}
@@ -131,16 +130,10 @@ module _ (sender media b : ℕ) (ms : List ℕ) (m : media < 4294967296) (h : b 
 
   -- ---- the old reading
 
-  none-more : (l : List ℕ) → isSome l ≡ false → l ≡ []
-  none-more [] e = refl
-  none-more (x ∷ l) e = true≢false (sym e)
-
   old-numbers : (good : isBody (AKind (Spans (Chunks Loss))) second ≡ true) (body : Body second)
       → length (chunksBlock Loss second) ≤ maxBytes → crateNumbers (chunksBlock Loss second ++ []) ≡ heardOf b ms
   old-numbers good body small =
-      let lead = standard-first Loss second good body [] small in
-      let l : List ℕ = numbersOf (rangeOf (jobFields second)) (jobWords second) in
-      sym (lead .split) ∙ ap (λ (m : List ℕ). l ++ m) (none-more (lead .more) (lead .goes ∙ quiet)) ∙ append-nil l
+      crate-same Loss second good body [] small quiet
       ∙ ap₂ (λ (f : Fields) (ws : List ℕ). numbersOf (rangeOf f) ws) fields-are words-are
       ∙ numbers-heard media b ms h k marks
 

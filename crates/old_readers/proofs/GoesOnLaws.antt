@@ -63,96 +63,96 @@ gap-near b e x y h k l = omega arith
 
 -- a range of some of the numbers from begin to before end
 module _ (begin end t size : ℕ) (begin-fits : begin < 65536) (end-fits : end < 65536) (few : size ≤ sizeOf begin end)
-    where
-  abbrev g : Range
-  g = record { begin = begin; size = size; thinning = t }
+  where
+    abbrev g : Range
+    g = record { begin = begin; size = size; thinning = t }
 
-  -- a place's number, tried from position p's, passes where that of the position as many on is inside
-  inside-passes : (p q : ℕ) → inside g (p + q) ≡ true
-      → passes (numberOf g p) end (sequenceOf q (numberOf g p) t) ≡ true
-  unfolding inside offsetOf numberOf
-  inside-passes p q h =
-      let m = 2 ^ t in
-      let near : (p + q) * m < size = ltb-true _ _ h in
-      let whole = size-gap begin end begin-fits end-fits in
-      let high = gap-high begin end begin-fits end-fits in
-      let e : (p + q) * m ≡ p * m + q * m = omega arith in
-      let low : q * m < 65536 = omega arith in
-      let less = gap-near begin end (p * m) (q * m) begin-fits end-fits (omega arith) in
-      rw (mod-eq-of-lt low)
-      (passes-near (numberOf g p) end (mod-lt (begin + p * m) (lit< tt)) end-fits (q * m) less)
+    -- a place's number, tried from position p's, passes where that of the position as many on is inside
+    inside-passes : (p q : ℕ) → inside g (p + q) ≡ true
+        → passes (numberOf g p) end (sequenceOf q (numberOf g p) t) ≡ true
+    unfolding inside offsetOf numberOf
+    inside-passes p q h =
+        let m = 2 ^ t in
+        let near : (p + q) * m < size = ltb-true _ _ h in
+        let whole = size-gap begin end begin-fits end-fits in
+        let high = gap-high begin end begin-fits end-fits in
+        let e : (p + q) * m ≡ p * m + q * m = omega arith in
+        let low : q * m < 65536 = omega arith in
+        let less = gap-near begin end (p * m) (q * m) begin-fits end-fits (omega arith) in
+        rw (mod-eq-of-lt low)
+        (passes-near (numberOf g p) end (mod-lt (begin + p * m) (lit< tt)) end-fits (q * m) less)
 
-  -- ---- value by value
+    -- ---- value by value
 
-  -- the tries that pass, up to the first that fails
-  abbrev keptFrom : ℕ → List Try → List ℕ
-  keptFrom k tries =
-      whileFrom (λ (_ : ℕ) (x : Try). passes (x .start) end (x .number)) (λ (_ : ℕ) (x : Try). x .number) k tries
+    -- the tries that pass, up to the first that fails
+    abbrev keptFrom : ℕ → List Try → List ℕ
+    keptFrom k tries =
+        whileFrom (λ (_ : ℕ) (x : Try). passes (x .start) end (x .number)) (λ (_ : ℕ) (x : Try). x .number) k tries
 
-  -- a word whose first position is p; behind it the standard lists `rest`, and the crate tries `others`
-  module _ (p : ℕ) (rest : List ℕ) (others : List Try) (on : Bool)
-      (behind : (k : ℕ) → Leads rest (keptFrom k others) on) where
-    -- the ones among values from place q on
-    abbrev triesAt : ℕ → List ℕ → List Try
-    triesAt q vs =
-        map (tryAt t (numberOf g p)) (listFrom (λ (_ : ℕ) (value : ℕ). eqb value 1) (λ (r : ℕ) (_ : ℕ). r) q vs)
+    -- a word whose first position is p; behind it the standard lists `rest`, and the crate tries `others`
+    module _ (p : ℕ) (rest : List ℕ) (others : List Try) (on : Bool)
+        (behind : (k : ℕ) → Leads rest (keptFrom k others) on) where
+      -- the ones among values from place q on
+      abbrev triesAt : ℕ → List ℕ → List Try
+      triesAt q vs =
+          map (tryAt t (numberOf g p)) (listFrom (λ (_ : ℕ) (value : ℕ). eqb value 1) (λ (r : ℕ) (_ : ℕ). r) q vs)
 
-    -- whether the crate goes on: the first one outside is at place q, or there is none before the place `past`
-    abbrev goesAt : ℕ → ℕ → Bool
-    goesAt q past = cond (ltb q past) (passes (numberOf g p) end (numberOf g (p + q))) on
+      -- whether the crate goes on: the first one outside is at place q, or there is none before the place `past`
+      abbrev goesAt : ℕ → ℕ → Bool
+      goesAt q past = cond (ltb q past) (passes (numberOf g p) end (numberOf g (p + q))) on
 
-    abbrev ValuesLed : ℕ → ℕ → List ℕ → Type 0
-    ValuesLed k q vs =
-        Leads (numbersIn g (p + q) vs ++ rest) (keptFrom k (triesAt q vs ++ others))
-        (goesAt (outsideFrom g p q vs) (q + length vs))
+      abbrev ValuesLed : ℕ → ℕ → List ℕ → Type 0
+      ValuesLed k q vs =
+          Leads (numbersIn g (p + q) vs ++ rest) (keptFrom k (triesAt q vs ++ others))
+          (goesAt (outsideFrom g p q vs) (q + length vs))
 
-    -- a one inside is listed in both; at the first one outside the standard's list ends, and the crate's is tested
-    value-led : (k q v : ℕ) (vs : List ℕ) → (insideCount g ≤ p + q → rest ≡ []) → ((i : ℕ) → ValuesLed i (suc q) vs)
-        → ValuesLed k q (v ∷ vs)
-    unfolding outsideFrom numbersIn
-    value-led k q v vs last led =
-        let next : p + suc q ≡ suc (p + q) = omega arith in
-        let same : q + suc (length vs) ≡ suc q + length vs = omega arith in
-        let past : q < q + suc (length vs) = omega arith in
-        either (eqb v 1)
-        (λ one. either (inside g (p + q))
-        (λ near. rw (one, near, same, inside-passes p q near, numberOf-on g p q)
-        (leads-cons (numberOf g (p + q)) (rw next at (led (suc k)))))
-        (λ out. let far : insideCount g ≤ p + q = ltb-false _ _ (sym (inside-count g (p + q)) ∙ out) in
-        rw (one, out, lt-ltb _ _ past, last far, numbersIn-outside g (suc (p + q)) vs (omega arith), numberOf-on g p q)
-        (leads-test (passes (numberOf g p) end (numberOf g (p + q))) _ _)))
-        (λ zero. rw (zero, same) (rw next at (led k)))
+      -- a one inside is listed in both; at the first one outside the standard's list ends, and the crate's is tested
+      value-led : (k q v : ℕ) (vs : List ℕ) → (insideCount g ≤ p + q → rest ≡ []) → ((i : ℕ) → ValuesLed i (suc q) vs)
+          → ValuesLed k q (v ∷ vs)
+      unfolding outsideFrom numbersIn
+      value-led k q v vs last led =
+          let next : p + suc q ≡ suc (p + q) = omega arith in
+          let same : q + suc (length vs) ≡ suc q + length vs = omega arith in
+          let past : q < q + suc (length vs) = omega arith in
+          either (eqb v 1)
+          (λ one. either (inside g (p + q))
+          (λ near. rw (one, near, same, inside-passes p q near, numberOf-on g p q)
+          (leads-cons (numberOf g (p + q)) (rw next at (led (suc k)))))
+          (λ out. let far : insideCount g ≤ p + q = ltb-false _ _ (sym (inside-count g (p + q)) ∙ out) in
+          rw (one, out, lt-ltb _ _ past, last far, numbersIn-outside g (suc (p + q)) vs (omega arith), numberOf-on g p q)
+          (leads-test (passes (numberOf g p) end (numberOf g (p + q))) _ _)))
+          (λ zero. rw (zero, same) (rw next at (led k)))
 
-    values-led : (k q : ℕ) (vs : List ℕ) → (insideCount g ≤ p + (q + length vs) → rest ≡ []) → ValuesLed k q vs
-    unfolding outsideFrom numbersIn
-    values-led k q [] last = let n : q + 0 ≤ q = omega arith in rw (le-ltb _ _ n) (behind k)
-    values-led k q (v ∷ vs) last =
-        value-led k q v vs (λ n. last (omega arith)) (λ i. values-led i (suc q) vs (λ n. last (omega arith)))
+      values-led : (k q : ℕ) (vs : List ℕ) → (insideCount g ≤ p + (q + length vs) → rest ≡ []) → ValuesLed k q vs
+      unfolding outsideFrom numbersIn
+      values-led k q [] last = let n : q + 0 ≤ q = omega arith in rw (le-ltb _ _ n) (behind k)
+      values-led k q (v ∷ vs) last =
+          value-led k q v vs (λ n. last (omega arith)) (λ i. values-led i (suc q) vs (λ n. last (omega arith)))
 
-  -- ---- word by word
+    -- ---- word by word
 
-  abbrev WordsLed : ℕ → ℕ → List ℕ → Type 0
-  WordsLed k p ws = Leads (numbersFrom g p ws) (keptFrom k (triesFrom t (numberOf g p) ws)) (goesOn g end p ws)
+    abbrev WordsLed : ℕ → ℕ → List ℕ → Type 0
+    WordsLed k p ws = Leads (numbersFrom g p ws) (keptFrom k (triesFrom t (numberOf g p) ws)) (goesOn g end p ws)
 
-  word-led : (k p w : ℕ) (ws : List ℕ) → ((i : ℕ) → WordsLed i (p + coversOf w) ws) → WordsLed k p (w ∷ ws)
-  unfolding triesFrom onesIn goesOn
-  word-led k p w ws led =
-      let next = p + coversOf w in
-      let moved : movedBy (coversOf w) t (numberOf g p) ≡ numberOf g next =
-      moved-sequence (coversOf w) t (numberOf g p) ∙ numberOf-on g p (coversOf w) in
-      let covers : coversOf w ≡ 0 + length (valuesIn w) = omega (arith, length-valuesIn w) in
-      let last : insideCount g ≤ p + (0 + length (valuesIn w)) → numbersFrom g next ws ≡ [] =
-      λ n. numbers-outside g next ws (omega arith) in
-      let word = values-led p (numbersFrom g next ws) (triesFrom t (numberOf g next) ws) (goesOn g end next ws) led in
-      rw (numbers-cons g p w ws, moved) (rw (← covers, add-zero p) at (word k 0 (valuesIn w) last))
+    word-led : (k p w : ℕ) (ws : List ℕ) → ((i : ℕ) → WordsLed i (p + coversOf w) ws) → WordsLed k p (w ∷ ws)
+    unfolding triesFrom onesIn goesOn
+    word-led k p w ws led =
+        let next = p + coversOf w in
+        let moved : movedBy (coversOf w) t (numberOf g p) ≡ numberOf g next =
+        moved-sequence (coversOf w) t (numberOf g p) ∙ numberOf-on g p (coversOf w) in
+        let covers : coversOf w ≡ 0 + length (valuesIn w) = omega (arith, length-valuesIn w) in
+        let last : insideCount g ≤ p + (0 + length (valuesIn w)) → numbersFrom g next ws ≡ [] =
+        λ n. numbers-outside g next ws (omega arith) in
+        let word = values-led p (numbersFrom g next ws) (triesFrom t (numberOf g next) ws) (goesOn g end next ws) led in
+        rw (numbers-cons g p w ws, moved) (rw (← covers, add-zero p) at (word k 0 (valuesIn w) last))
 
-  words-led : (k p : ℕ) (ws : List ℕ) → WordsLed k p ws
-  unfolding triesFrom goesOn
-  words-led k p [] = rw (numbers-nil g p) (record { more = []; split = refl; goes = refl })
-  words-led k p (w ∷ ws) = word-led k p w ws (λ i. words-led i (p + coversOf w) ws)
+    words-led : (k p : ℕ) (ws : List ℕ) → WordsLed k p ws
+    unfolding triesFrom goesOn
+    words-led k p [] = rw (numbers-nil g p) (record { more = []; split = refl; goes = refl })
+    words-led k p (w ∷ ws) = word-led k p w ws (λ i. words-led i (p + coversOf w) ws)
 
-  pub words-lead : (ws : List ℕ)
-      → Leads (numbersOf (record { begin = begin; size = size; thinning = t }) ws) (crateNumbersFrom end t begin ws)
-      (goesOn (record { begin = begin; size = size; thinning = t }) end 0 ws)
-  unfolding crateNumbersFrom
-  words-lead ws = rw (numberOf-zero g begin-fits) at (words-led 0 0 ws)
+    pub words-lead : (ws : List ℕ)
+        → Leads (numbersOf (record { begin = begin; size = size; thinning = t }) ws) (crateNumbersFrom end t begin ws)
+        (goesOn (record { begin = begin; size = size; thinning = t }) end 0 ws)
+    unfolding crateNumbersFrom
+    words-lead ws = rw (numberOf-zero g begin-fits) at (words-led 0 0 ws)

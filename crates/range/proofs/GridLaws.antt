@@ -2,6 +2,7 @@
 -- `aheadOf` and `rangeOf`. Assumes nothing.
 --     ahead-on, ahead-off             how far the grid's first number lies ahead, by where begin stands
 --     grid-sum                        that number is begin rounded up
+--     ahead-whole                     by thinning 0 it is begin
 --     range-size, range-begin         what is reported on lies on the circle
 --     inside-ahead, number-ahead      a position's test and its number, by d
 --     number-grid, listed-grid        every number lies where the first does on the grid; a block's, on it
@@ -10,7 +11,7 @@ use Prim.Native.Nat.{ℕ, zero, suc, _+_, _*_, _-_, _/_, _%_, _^_, _≤_, _<_, m
 use mathlib.Core.Path.{_≡_, refl, sym, ap, ap₂, _∙_}
 use mathlib.Core.Bool.{true, false}
 use native.Mathlib.Nat.{mod-eq-of-lt, mod-lt, mod-self, div-add-mod, mul-mod-left, mod-add-mod, add-mul-mod-self-right}
-use native.Mathlib.Nat.{sub-zero}
+use native.Mathlib.Nat.{sub-zero, mod-one}
 use native.Mathlib.Omega.{arith}
 use lib.Dec.{ltb, eqb, lit<}
 use lib.Pow.{pow-pos, pow-mono, pow-add, mod-mod-pow}
@@ -64,6 +65,10 @@ module _ (b t : ℕ) where
       let c : ceilDiv b m ≡ suc q = let above = ceil-above b m (pow-pos t) (suc q) (omega arith) in
       let below = ceil-below b m (pow-pos t) q (omega arith) in omega arith in
       rw (ahead-off n, c) (omega arith))
+
+-- every number is on the grid of thinning 0
+pub ahead-whole : (b : ℕ) → aheadOf b 0 ≡ 0
+ahead-whole b = ahead-on b 0 (mod-one b)
 
 -- ---- of a block's fields
 

@@ -8,7 +8,8 @@ use borrow.Author.Needs.{needs}
 use Rattle.def_wire.specs.declared.Reading.the-variants.{Standard}
 use Rattle.def_wire.specs.Bytes.{words16}
 use Rattle.def_wire.specs.Block.{fieldsAt}
-use Rattle.def_standard.specs.Range.{rangeOf}
+use Rattle.def_standard.specs.declared.Range.{Range}
+use Rattle.def_standard.specs.Range.{rangeOf, numberOf}
 use Rattle.def_standard.specs.Standard.{numbersOf, standardNumbers}
 use Rattle.def_portions.specs.Events.{rangedOf}
 use Rattle.event_lists.specs.Laid.{Laid}
@@ -125,7 +126,7 @@ returns-3 c =
     let g = p .before .before .before .before .before .before .before in
     let f = g .before in
     let first = first-found Standard (f .fields-at .result) (v-of p) (f .fields-at .ensures) (x .number-at .result)
-    (g .range-of .result) (x .number-at .ensures) (g .range-of .ensures) in
+    (x .number-at .ensures ∙ ap (λ (y : Range). numberOf y 0) (g .range-of .ensures)) in
     let step = step-found Standard (f .fields-at .result) (v-of p) (f .fields-at .ensures) (d .doubled .result)
     (d .doubled .ensures) in
     ranged-times (v-of p) (long p .if1 .left) (began p) (t .enum-told2 .given .1)
