@@ -1,15 +1,18 @@
 """Job lists for careful writing, most of them at an edge of refusal 15.
 
-chosen()               lists of records: each edge once, small
+chosen()               lists of records: each edge once, small; and begins beside each grid
 lists(draw, count)     job lists, drawn at random; some padded, damaged or at the limits
 edges(draw, count)     records of so many blocks at an edge, and some more
 
 An edge: the first one outside a range stands at its end or a little behind it, and by a run or a vector that begins
 before it, there, or later; as many times as a range has positions, or nearly; few bytes behind times and entries, or
-the 40 of a summary.
+the 40 of a summary. Half of the ranges begin on the grid, the multiples of 2^T; the others, most of them one above or
+one below it, are misled by any number that the crate lists, so there the first one at all stands near the end, and of
+times there are few.
 """
 from jobs import job_list
-from model_cases import CLOCK, FLAGS, any_summary, cleared, dlrr, header, rle, summed, times
+from lists import ahead
+from model_cases import CLOCK, FLAGS, any_summary, beside_grid, cleared, dlrr, header, rle, steps, summed, times
 from readings import Range
 from scale_lists import EDGES, FAR, LOST, damaged, largest
 from scale_lists import header as any_header
@@ -17,12 +20,6 @@ from scale_lists import record
 
 ENTRIES = (0, 0, 0, 1, 1, 1, 2, 3, 4, 5, 5, 6, 8, 9, 9, 13)
 FEW = 40        # positions that are told one by one
-
-
-def positions(r):
-    """How many positions are inside."""
-    size = (r.end - r.begin) % 65536 or 65536
-    return -(-size >> r.thinning)
 
 
 # Drawn
@@ -56,39 +53,47 @@ def any_edge(draw):
         return 5, [tuple(draw.getrandbits(32) for _ in range(3)) for _ in range(draw.choice(ENTRIES))]
     r = any_range(draw)
     if kind == 3:
-        count = positions(r) + draw.randrange(-2, 3)
+        count = steps(r) + draw.randrange(-2, 3)
         count = count if 0 <= count < FEW else draw.randrange(5)
+        count = count if ahead(r) == 0 or draw.randrange(3) == 0 else 0
         return 3, r, [draw.getrandbits(32) for _ in range(count)]
-    return kind, r, edge_words(draw, positions(r))
+    return kind, r, edge_words(draw, steps(r), ones=ahead(r) == 0 or draw.randrange(4) == 0)
 
 
 def any_range(draw):
-    begin, thinning = draw.choice(EDGES + (draw.getrandbits(16),) * 4), draw.randrange(16)
+    thinning = draw.randrange(16)
+    begin = draw.choice(EDGES + (draw.getrandbits(16),) * 4)
+    begin = draw.choice((begin, begin >> thinning << thinning, *(beside_grid(draw, thinning),) * 2))
+    first = -begin % (1 << thinning)
     size = draw.choice((0, 1, 2, 3, draw.randrange(FEW), (draw.randrange(4) << thinning) + draw.randrange(-1, 2),
                         (draw.randrange(FEW) << thinning) + draw.randrange(-1, 2), 65535, 65536 - (1 << thinning),
+                        first + draw.randrange(-1, 2), first + (draw.randrange(4) << thinning) + draw.randrange(-1, 2),
                         draw.getrandbits(16)))
     if size % 65536 >> thinning > 1000 or size == 0 and thinning < 7:
         size = size if draw.random() < .1 else draw.randrange(1, FEW)     # a long list takes the model long
     return Range(draw.choice((0, 7, FAR)), begin, (begin + size) % 65536, thinning)
 
 
-def edge_words(draw, inside):
-    """Words whose first one outside, if there is one, stands near position `inside`."""
-    how, own = draw.randrange(8), []
-    ahead = draw.choice((0, 0, 1, draw.randrange(15), draw.randrange(30)))
-    if how < 2:         # ones from the end on, or from a little behind it
-        own = covering(draw, inside) + covering(draw, ahead, ones=False) + [0x4000 | draw.choice((1, 1, 2, 20, 16383))]
-    elif how < 5:       # a run of ones over the end, or up to it
-        own = covering(draw, max(inside - ahead, 0)) + [0x4000 | min(ahead + draw.randrange(3), 16383)]
-    elif how < 7:       # a vector over the end
-        own = covering(draw, max(inside - ahead % 16, 0)) + [0x8000 | draw.getrandbits(15) & draw.getrandbits(15)]
+def edge_words(draw, inside, ones):
+    """Words whose first one outside, if there is one, stands near position `inside`; without ones before it, if that is
+    asked, and then it is the first at all."""
+    how, own = draw.choice((0, 0, 1, 1, 1, 2, 2, 3) if ones else (0, 1, 2, 2, 2, 3)), []
+    past = draw.choice((0, 0, 1, draw.randrange(15), draw.randrange(30)))
+    if how == 0:        # ones from the end on, or from a little behind it
+        own = covering(draw, inside, ones) + covering(draw, past, False) + [0x4000 | draw.choice((1, 1, 2, 20, 16383))]
+    elif how == 1:      # a run of ones over the end, or up to it
+        own = covering(draw, max(inside - past, 0), ones) + [0x4000 | min(past + draw.randrange(3), 16383)]
+    elif how == 2:      # a vector over the end; its first one, if the first at all, at the end or right before it
+        places = draw.getrandbits(15) & draw.getrandbits(15)
+        places &= 0x7fff if ones else 0x7fff >> max(past % 16 - draw.randrange(2), 0)
+        own = covering(draw, max(inside - past % 16, 0), ones) + [0x8000 | places]
     else:               # nothing behind the end, or any words
-        own = draw.choice((covering(draw, inside), [draw.getrandbits(16) for _ in range(draw.randrange(4))]))
+        own = draw.choice((covering(draw, inside, ones), [draw.getrandbits(16) for _ in range(draw.randrange(4))]))
     behind = (0, 0, 3, 16384, 16385, 32768, 0x8000 | draw.getrandbits(15), draw.getrandbits(14))
     return own + [draw.choice(behind) for _ in range(draw.choice((0, 0, 0, 1, 1, 2, 3)))]
 
 
-def covering(draw, count, ones=True):
+def covering(draw, count, ones):
     """Words that cover so many positions; without ones, if that is asked."""
     own = []
     while count > 0:
@@ -117,7 +122,7 @@ def chosen():
         yield [header(), rle([16383] * 4 + last, 5, 5)]
     for thinning in range(16):
         for begin, end in (0, 0), (65530, 3), (7, (7 + (2 << thinning)) % 65536):
-            own = positions(Range(7, begin, end, thinning))
+            own = steps(Range(7, begin, end, thinning))
             if own < FEW:
                 for count in own, own + 1:
                     yield [header(), rle([0x4000 | count], begin, end, thinning)]
@@ -132,3 +137,17 @@ def chosen():
     for flags in FLAGS:
         yield [header(), summed(flags)]
     yield [header(), summed(128), summed(64), rle([16386, 16385], 10, 12)]
+    yield from beside_grids()
+
+
+def beside_grids():
+    """Begins one below a multiple of 2^T, whose first number is one ahead, and one above it; for every other T the
+    multiple is 65536. Nothing, a one inside the range, one outside that fails, and times."""
+    for thinning in range(1, 16):
+        step, kind = 1 << thinning, 1 + thinning % 2
+        for begin in (step - 1, step + 1) if thinning % 2 else (65535, 65537 - step):
+            first = begin + -begin % step
+            for own, end in ([3], begin), ([2, 16385], first + 3 * step), ([16385], first), ([0xa000], begin + 1):
+                yield [header(), rle(own, begin, end % 65536, thinning, kind)]
+            for own, behind in ([], []), ([], [dlrr(0)]), ([1], []):
+                yield [header(), times(own, begin, (first + 1) % 65536, thinning), *behind]

@@ -3,6 +3,7 @@
 word     16 bits; covers(word) positions, whose values are values(word), in order
 p        a position, counted from 0 through the words; q a place in one word
 room     how many items fit; None is room for anything
+What the standard reading reports on, by the distance d up to the grid, stands in is_inside and number alone.
 """
 from readings import CRATE, RLE, STANDARD, be, find_as, question, range_of, refuse, view_of
 
@@ -39,13 +40,22 @@ def make_word(kind, value, room):
 
 # Lists (refusal 11 counts items)
 
+def range_size(r):
+    """R: how many numbers there are from begin to before end."""
+    return (r.end - r.begin) % NUMBERS or NUMBERS
+
+
+def ahead(r):
+    """d: how far it is from begin up to the next multiple of 2^T, the first number that a block reports on."""
+    return -r.begin % (1 << r.thinning)
+
+
 def is_inside(p, r):
-    size = (r.end - r.begin) % NUMBERS or NUMBERS
-    return p << r.thinning < size
+    return ahead(r) + (p << r.thinning) < range_size(r)
 
 
 def number(p, r):
-    return (r.begin + (p << r.thinning)) % NUMBERS
+    return (r.begin + ahead(r) + (p << r.thinning)) % NUMBERS
 
 
 def standard_numbers(r, words):

@@ -1,5 +1,6 @@
 """Short ways to make records and packets for the model's checks, and seeded ones."""
 from jobs import holds_lost, job_list, layout, write
+from lists import ahead, range_size
 from readings import CRATE, LOST_RUN, STANDARD, SUMMARY_SIZES, Range
 
 
@@ -45,13 +46,35 @@ def both(ask, packet, *rest):
     return ask(packet, STANDARD, *rest), ask(packet, CRATE, *rest)
 
 
+# Ranges and their grid: the multiples of 2^T
+
+def steps(r):
+    """How many steps of 2^T there are from begin to before end; on the grid as many as positions are inside."""
+    return -(-range_size(r) >> r.thinning)
+
+
+def reported(r):
+    """How many positions are inside."""
+    return max(0, -(ahead(r) - range_size(r) >> r.thinning))
+
+
+def beside_grid(draw, thinning):
+    """A begin on the grid, one below or one above it."""
+    return (draw.randrange(65536 >> thinning) * (1 << thinning) + draw.choice((-1, 0, 0, 1))) % 65536
+
+
 # Seeded choices
 
 def any_range(draw):
+    """Every thinning; begin anywhere, half of the time on the grid or right beside it; end at begin, anywhere, before
+    the first number on the grid, at it, or some steps behind it."""
     edges = [0, 1, 5, 32768, 65530, 65535, draw.randrange(65536)]
-    begin, thinning = draw.choice(edges), draw.choice([0, 0, 1, 3, 12, 14, 15])
-    end = draw.choice([begin, draw.choice(edges), (begin + draw.randrange(60)) % 65536])
-    return Range(7, begin, end, thinning)
+    thinning = draw.choice([0, 0, 0, *range(16)])
+    begin = draw.choice([draw.choice(edges), beside_grid(draw, thinning)])
+    first = begin + -begin % (1 << thinning)
+    end = draw.choice([begin, draw.choice(edges), begin + draw.randrange(60), first + draw.randrange(-1, 2),
+                       first + (draw.randrange(12) << thinning) + draw.randrange(-1, 2)])
+    return Range(7, begin, end % 65536, thinning)
 
 
 def any_word(draw):

@@ -6,11 +6,11 @@ import random
 
 from dump import dump
 from jobs import job_list, layout, lost_record, misled, records, write
-from lists import (covers, crate_count, crate_numbers, cursor, entries, first_failure, is_inside,
-                   make_word, moved, numbers, offset_sequence, pairs, values, words)
+from lists import (ahead, covers, crate_count, crate_numbers, cursor, entries, first_failure, is_inside,
+                   make_word, moved, number, numbers, offset_sequence, pairs, range_size, values, words)
 from marks import misfit, words_from_marks
 from model_cases import (CLOCK, FLAGS, NUMBERS, any_block, any_marks, any_range, any_summary, any_word, both, careful,
-                         cleared, dlrr, h, header, plain, rle, summed, times)
+                         cleared, dlrr, h, header, plain, reported, rle, steps, summed, times)
 from portions import told
 from readings import (CRATE, STANDARD, Range, Summary, fields, is_refused, summary, summary_from, time, view, whole)
 
@@ -26,7 +26,7 @@ def expect(name, found, wanted):
 
 
 def run():
-    for test in (examples, header_facts, block_facts, list_facts, cursor_facts, word_facts,
+    for test in (examples, header_facts, block_facts, list_facts, grid_facts, cursor_facts, word_facts,
                  job_facts, misled_facts, misled_rules, mark_facts, mark_turns, portion_facts, dump_facts, lost_facts,
                  lost_turns, summary_facts, summary_jobs, summary_turns):
         test()
@@ -160,6 +160,44 @@ def list_facts():
         expect("count is the list's length", crate_count(r, own), len(list(crate_numbers(r, own))))
 
 
+def grid_facts():
+    """A thinned block reports on the multiples of 2^T in its range, wherever it begins."""
+    for begin, end, wanted in (5, 20, [8, 12, 16]), (5, 8, []), (5, 9, [8]), (65533, 10, [0, 4, 8]), (8, 20, [8, 12, 16]), \
+            (7, 20, [8, 12, 16]), (9, 20, [12, 16]), (65533, 0, []), (65533, 1, [0]), (6, 7, []):
+        count = len(wanted)
+        items = [(n, 1001 + p) for p, n in enumerate(wanted)]
+        r = Range(7, begin, end, 2)
+        own = plain((1, r, [16392, 0]), (2, r, [65535]), (3, r, range(1001, 1009)))
+        expect(f"numbers from {begin} to {end}", [numbers(own, STANDARD, i, i + 1) for i in (0, 1)], [wanted] * 2)
+        expect("pairs", pairs(own, STANDARD, 2), items)
+        expect("cursor", cursor(own, 0, 1, 0, 0, 0, 9, 9), (9, 2, 0, 8, wanted))
+        expect("cursor, from position 1", cursor(own, 0, 1, 0, 1, 1, 7, 7)[4], wanted[1:])
+        events = [line for line in told(99, [], own).splitlines() if line.startswith(("number", "pair"))]
+        expect("portions", [line.split()[1] for line in events], [str(n) for n in wanted * 3])
+        expect("positions", [is_inside(p, r) for p in range(20)], [p < count for p in range(20)])
+    expect("crate, as it was", [numbers(plain(rle([16388, 0], 5, end, 2)), CRATE, 0, 1) for end in (20, 8)],
+           [[5, 9, 13, 17], [5]])
+    expect("crate pairs", pairs(plain(times([1, 2], 5, 20, 2)), CRATE, 0), [(5, 1), (9, 2)])
+    all_of = Range(7, 5, 5, 2)
+    expect("begin = end", [(is_inside(p, all_of), number(p, all_of)) for p in (0, 16382, 16383)],
+           [(True, 8), (True, 0), (True, 4)])
+    expect("begin = end, past it", is_inside(16384, all_of), False)
+    expect("begin = end, listed", numbers(plain(rle([16383, 16386], 5, 5, 2)), STANDARD, 0, 1), [4])
+    expect("T 15", [numbers(plain(rle([65535, 0], 32769, end, 15)), STANDARD, 0, 1) for end in (32769, 32768, 1, 0, 32770)],
+           [[0, 32768], [0], [0], [], []])
+    expect("T 15, the crate", numbers(plain(rle([16386, 0], 32769, 32769, 15)), CRATE, 0, 1), [32769, 1])
+    draw = random.Random(7)
+    chosen = [Range(7, begin % 65536, (begin + size) % 65536, t) for t in range(16) for begin in
+              (-1, 0, 1, (1 << t) - 1, (1 << t) + 1, (3 << t) - 1, (3 << t) + 1, 32768 - 1, 32768 + 1)
+              for size in (0, 1, -begin % (1 << t), -begin % (1 << t) + 1)]
+    for r in chosen + [any_range(draw) for _ in range(200)]:
+        wanted = [n % 65536 for n in range(r.begin, r.begin + range_size(r)) if n % (1 << r.thinning) == 0]
+        expect(f"the multiples of {r}", [number(p, r) for p in range(reported(r))], wanted)
+        expect("where they end", (is_inside(reported(r), r), reported(r) and is_inside(reported(r) - 1, r)),
+               (False, reported(r) and True))
+        expect("how many", reported(r), len(wanted))
+
+
 def cursor_facts():
     packet = plain(rle([16386, 0, 32769, 3], 10, 14))
     all_of = cursor(packet, 0, 1, 0, 0, 0, 100, 100)
@@ -262,6 +300,24 @@ def misled_facts():
         behind = [misleads(dlrr(n), block) for block in (CLOCK, dlrr(0))]
         expect("DLRR and 12 bytes", behind, [[0] if n % 4 == 1 else [], []])
     expect("index", misleads(CLOCK, CLOCK, dlrr(1), CLOCK), [2])
+    for kind in 1, 2:
+        for own in [], [3], [0], [32768], [3, 32768, 0], [32769]:
+            block = rle(own, 5, 20, 2, kind)
+            expect("off the grid: nothing listed", (misleads(block), misleads(CLOCK, block, CLOCK)), ([], []))
+            expect("and written", is_refused(careful(block)), False)
+        for own in [16385], [2, 16385], [16387], [34816], [3, 3, 16385], [49152]:
+            expect("off the grid: 15", (misleads(rle(own, 5, 20, 2, kind)), careful(rle(own, 5, 20, 2, kind))),
+                   ([0], ("refused", 15, 0, 0)))
+        moved_up = careful(rle([16387], 8, 20, 2, kind))
+        expect("begin moved up to the grid", both(numbers, moved_up, 0, kind), ([8, 12, 16],) * 2)
+        # b 5, e 9: the crate's position 1 is 9, and fails from 5 on; b 5, e 8: it is past the end, and so is 8
+        for end in 8, 9:
+            expect("off the grid: a vector's one that fails", misleads(rle([0xa000], 5, end, 2, kind)), [])
+            expect("off the grid: a one that starts a word passes", misleads(rle([1, 16385], 5, end, 2, kind)), [0])
+    for own, end, behind, wanted in ([], 20, [], []), ([1], 20, [], [0]), ([1], 8, [], [0]), ([], 8, [dlrr(0)], [0]):
+        expect("times off the grid", misleads(times(own, 5, end, 2), *behind), wanted)
+    expect("times, begin moved up to the grid", misleads(times([1, 2, 3], 8, 20, 2), CLOCK), [])
+    expect("times off the grid, padded", is_refused(careful(times([1], 5, 20, 2), padding=4)), False)
 
 
 def misled_rules():
@@ -274,15 +330,20 @@ def misled_rules():
         sizes = [len(layout([header(), b], True)) - 8 for b in blocks]
         short = [i for i, b in enumerate(blocks) if rule_misleads(b, sum(sizes[i + 1:]))]
         expect(f"short form of 15, {found}", misled(found), short)
-        seen |= {(b[0], i in short) for i, b in enumerate(blocks)}
+        seen |= {(b[0], b[0] < 4 and ahead(b[1]) > 0, i in short) for i, b in enumerate(blocks)}
         for b in blocks:
             if b[0] in (1, 2):
-                lists = both(numbers, layout([header(), b], True), 0, b[0])
-                expect("standard is a prefix of crate", lists[1][:len(lists[0])], lists[0])
-    expect("kinds met", seen, {(k, m) for k in range(1, 7) for m in (True, False)} - {(4, True), (6, True)})
+                standard, crate = both(numbers, layout([header(), b], True), 0, b[0])
+                if ahead(b[1]):
+                    expect("off the grid no number is shared", set(standard) & set(crate), set())
+                else:
+                    expect("on the grid standard is a prefix of crate", crate[:len(standard)], standard)
+    ranged = {(k, off, m) for k in (1, 2, 3) for off in (True, False) for m in (True, False)}
+    expect("kinds met", seen, ranged | {(4, False, False), (5, False, True), (5, False, False), (6, False, False)})
 
 
 def rule_misleads(block, behind):
+    """By the record and how many bytes stand behind its block. Off the grid any number that the crate lists misleads."""
     kind = block[0]
     if kind in (4, 6):
         return False
@@ -290,15 +351,15 @@ def rule_misleads(block, behind):
         return len(block[1]) % 4 == 1 and behind >= 12
     _, r, items = block
     if kind == 3:
-        own, most = len(items), len(items) + behind // 4
-        size = (r.end - r.begin) % 65536 or 65536
-        last = -(-size >> r.thinning)
+        own, most, last = len(items), len(items) + behind // 4, steps(r)
+        if ahead(r):
+            return most > 0
         return not (most == own <= last or
                     own >= last and offset_sequence(last, r.begin, r) is None)
     p, start = 0, r.begin
     for word in items:
         for q, value in enumerate(values(word)):
-            if value and not is_inside(p + q, r):
+            if value and (ahead(r) or not is_inside(p + q, r)):
                 return offset_sequence(q, start, r) is not None
         p, start = p + covers(word), moved(start, word, r)
     return False

@@ -1,7 +1,9 @@
 """Questions about one packet for xrprobe, whose answers the model gives: the standard reading, the
-number cursor, chunk words, summaries, the dump. standard(packet, draw) gives requests.
+number cursor, chunk words, summaries, the dump. standard(packet, draw) gives requests; thinned(draw) a packet of blocks
+with a range, many of which begin off their grid.
 """
 from lists import covers, entries_of, numbers_of, pairs_of, words_of
+from model_cases import any_range, any_word, cleared, plain
 from probe import (CURSOR, DUMP, FIELDS, LENT, LIST, NUMBERS, PARSE, SUMMARY, TYPES, VIEW, WORD, WORDS, asked,
                    request)
 from readings import STANDARD, Refusal, check_fit, walk
@@ -34,6 +36,15 @@ def standard(packet, draw):
                 yield question(kind, i, blocks[i].kind, draw, packet)
         if i < count:
             yield from own_type(packet, i, blocks[i], draw)
+
+
+def thinned(draw):
+    blocks = []
+    for _ in range(draw.randrange(1, 4)):
+        kind, count = draw.randrange(1, 4), draw.randrange(1, 6)
+        own = [any_word(draw) if kind < 3 else draw.getrandbits(32) for _ in range(count)]
+        blocks.append(cleared((kind, any_range(draw), own)))
+    return plain(*blocks)
 
 
 def some(count, draw):

@@ -334,6 +334,46 @@ fn marks() {
     }
 }
 
+/// A block thinned by T reports on the multiples of 2^T, wherever it begins; the original counts from begin.
+#[test]
+fn a_begin_off_the_grid() {
+    for (begin, end, thinning, standard) in [
+        (5, 20, 2, vec![8, 12, 16]),
+        (7, 20, 2, vec![8, 12, 16]),
+        (8, 20, 2, vec![8, 12, 16]),
+        (9, 20, 2, vec![12, 16]),
+        (5, 9, 2, vec![8]),
+        (5, 8, 2, vec![]),
+        (65_533, 10, 2, vec![0, 4, 8]),
+        (32_769, 32_769, 15, vec![0, 32_768]),
+        (32_769, 0, 15, vec![]),
+        (1, 5, 0, vec![1, 2, 3, 4]),
+    ] {
+        assert_eq!(numbers(S, begin, end, thinning, &[16_392, 0]), standard);
+        let times = PacketReceiptTimes::builder().begin(begin).end(end).thinning(thinning);
+        let times = (0..8).fold(times, |t, n| t.add_time(ReceiptTime(n)));
+        let packet = Xr::builder().add_block(times).plain().unwrap();
+        let times = Xr::parse(&packet).unwrap().block(0).unwrap().parse_into::<PacketReceiptTimes>().unwrap();
+        assert_eq!(times.sequence_iter().map(|(n, _)| n).collect::<Vec<_>>(), standard);
+    }
+    assert_eq!(numbers(C, 5, 20, 2, &[16_388, 0]), [5, 9, 13, 17]);
+    // begin = end: the last position inside is 16,383
+    assert_eq!(numbers(S, 5, 5, 2, &[16_383, 16_386]), [4]);
+
+    // careful writing: the original would list other numbers, unless it lists none; begin can be moved up to the grid
+    let loss = |begin, words: &[u16]| {
+        Xr::builder().add_block(LossRle::builder().begin(begin).end(20).thinning(2).add_words(words)).careful()
+    };
+    assert_eq!(loss(5, &[16_385]), Err(Refusal::Misleads { index: 0 }));
+    assert_eq!(loss(5, &[3]).unwrap().len(), 24);
+    assert_eq!(loss(5, &[]).unwrap().len(), 20);
+    let packet = loss(8, &[16_387]).unwrap();
+    for reading in [S, C] {
+        let loss = Xr::parse_as(reading, &packet).unwrap().block(0).unwrap().parse_into::<LossRle>().unwrap();
+        assert_eq!(loss.sequences().unwrap(), [8, 12, 16]);
+    }
+}
+
 /// A packet of one block, of type 1 or 2, with these words.
 fn block_of(block_type: u8, end: u16, words: &[u16]) -> Vec<u8> {
     let length = words.len() / 2 + 2;

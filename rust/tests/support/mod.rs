@@ -50,16 +50,19 @@ pub fn good_word(random: &mut Random) -> u16 {
     }
 }
 
-/// Begin, end and thinning: ranges that wrap, are full, are short.
+/// Begin, end and thinning: ranges that wrap, are full, are short; begin on the multiples of 2 to the thinning, right
+/// beside one, or anywhere.
 pub fn range(random: &mut Random) -> (u16, u16, u8) {
+    let thinning = if random.one_in(2) { 0 } else { random.below(16) as u8 };
     let any = random.next() as u16;
-    let begin = random.of(&[0, 1, 10, 65_530, 65_535, any]);
-    let end = match random.below(5) {
+    let grid = any >> thinning << thinning;
+    let begin = random.of(&[0, 1, 10, 65_530, 65_535, any, grid, grid.wrapping_sub(1), grid.wrapping_add(1)]);
+    let end = match random.below(6) {
         0 => begin,
         1 => random.next() as u16,
+        2 => begin.wrapping_add((random.below(12) << thinning) as u16),
         _ => begin.wrapping_add(random.below(60) as u16),
     };
-    let thinning = if random.one_in(2) { 0 } else { random.below(16) as u8 };
     (begin, end, thinning)
 }
 

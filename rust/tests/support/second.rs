@@ -102,11 +102,13 @@ fn values(word: u16) -> Vec<bool> {
     vec![word / 16_384 % 2 == 1; usize::from(word % 16_384)]
 }
 
-/// The number of a position, where it is inside the range.
+/// The number of a position, where it is inside the range: the multiples of 2 to the thinning, from begin on.
 fn number(block: &[u8], position: usize) -> Option<u16> {
     let (begin, end) = (be16(block, 8), be16(block, 10));
     let size = if begin == end { 65_536 } else { (end + 65_536 - begin) % 65_536 };
-    let offset = position << (block[1] % 16);
+    let step = 1 << (block[1] % 16);
+    let first = (begin + step - 1) / step * step;
+    let offset = first + position * step - begin;
     if offset < size {
         Some(((begin + offset) % 65_536) as u16)
     } else {
