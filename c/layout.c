@@ -110,7 +110,7 @@ static int same(xr_flat a, xr_flat b) {
 int main(void) {
     static const uint8_t packet[24] = {
         0x80, 0xcf, 0x00, 0x05, 0x00, 0x00, 0x00, 0x01, 0x01, 0x0f, 0x00, 0x03,
-        0x00, 0x00, 0x00, 0x07, 0x00, 0x0a, 0x00, 0x0e, 0x40, 0x02, 0x40, 0x02,
+        0x00, 0x00, 0x00, 0x07, 0x80, 0x00, 0x80, 0x04, 0x40, 0x02, 0x40, 0x02,
     };
     const uint8_t *view = packet + 8;
     uint16_t out[4] = {9, 9, 9, 9};
@@ -141,7 +141,7 @@ int main(void) {
 
     /* the fields in their places, and all 0 where they are refused */
     xr_flat_fields f = xr_fields_view(XR_STANDARD, XR_LOSS, view, 16);
-    HOLD(f.code == 0 && f.ssrc == 7 && f.begin == 10 && f.end == 14 && f.thinning == 15);
+    HOLD(f.code == 0 && f.ssrc == 7 && f.begin == 32768 && f.end == 32772 && f.thinning == 15);
     f = xr_fields_view(XR_STANDARD, XR_DUPLICATE, view, 16);
     HOLD(f.code == XR_OTHER_TYPE && f.first == 1 && f.ssrc == 0 && f.begin == 0 && f.end == 0 && f.thinning == 0);
 
@@ -149,7 +149,7 @@ int main(void) {
     memset(out, 9, sizeof out);
     xr_flat_stretch s = xr_cursor_view(XR_LOSS, view, 16, 0, 0, 0, 3, out, 4);
     HOLD(s.code == 0 && s.word == 1 && s.place == 1 && s.position == 3 && s.taken == 3 && s.listed == 1);
-    HOLD(out[0] == 10 && out[1] == 0x0909);
+    HOLD(out[0] == 32768 && out[1] == 0x0909);
     HOLD(xr_cursor_view(XR_LOSS, view, 16, 2, 1, 0, 3, out, 4).code == XR_NO_PLACE);
 
     HOLD(xr_chunk_of(0x4005).first == XR_ONES && xr_chunk_of(0x4005).second == 5);

@@ -10,7 +10,7 @@ use Rattle.laws.proofs.Tests.{by-test}
 use Rattle.def_refusals.specs.declared.Answer.the-variants.{Done}
 use Rattle.def_refusals.specs.Answers.{Or, shown, refused, answerOf, filledOf, Listed}
 
-done-eq : {m n : ℕ} → Done m ≡ Done n → m ≡ n
+pub done-eq : {m n : ℕ} → Done m ≡ Done n → m ≡ n
 done-eq e = cc
 
 module _ (out out′ : List ℕ) (n : ℕ) where

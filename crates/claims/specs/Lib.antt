@@ -1,5 +1,6 @@
 -- What the project claims beyond single functions, each a few plain lines about the public calls. Read in this order:
 --     Cursor     the number cursor by calls of any budgets lists what the list functions list
+--     Grid       a thinned block's numbers count from zero: position p by its distance, every number 0 mod 2^T
 --     Walk       the reader from `new` by `moved` comes to each block
 --     RoundTrip  the reading functions answer of a written packet what its records ask
 --     Absent     a summary's numbers whose flags are clear are written, and read back as absent
@@ -11,6 +12,7 @@
 -- and the crate of examples: the twelve examples and the worked facts of every clause of the definitions. proofs/
 -- proves each claim under its name in small letters.
 pub mod Cursor
+pub mod Grid
 pub mod Walk
 pub mod RoundTrip
 pub mod Absent

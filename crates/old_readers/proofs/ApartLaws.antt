@@ -1,8 +1,9 @@
 -- Types 1 and 2: what the two readings list of words differs exactly where `misledWords` says so. Where begin is on the
 -- grid the standard's list is a prefix of the crate's; where it is off it the crate's numbers are all off the grid and
 -- the standard's all on it, so the two are the same only where both are empty. Assumes nothing.
---     Gridded           the numbers of a list, by where they lie on the grid
---     lists-differ      the two lists differ where `misledWords` says so
+--     Gridded                       the numbers of a list, by where they lie on the grid
+--     numbers-grid, pairs-grid      the standard's lie on it
+--     lists-differ                  the two lists differ where `misledWords` says so
 use Prim.Native.Nat.{ℕ, suc, _+_, _%_, _^_, _≤_, _<_}
 use mathlib.Core.Path.{_≡_, refl, sym, ap, _∙_}
 use mathlib.Core.Bool.{Bool, not}
@@ -14,10 +15,11 @@ use borrow.Author.Tests.{eqb-true, eqb-false, ne-eqb, ltb-false}
 use Rattle.laws.proofs.Tests.{either, true≢false}
 use Rattle.def_wire.specs.declared.Fields.{Fields}
 use Rattle.def_standard.specs.declared.Range.{Range}
+use Rattle.def_standard.specs.declared.Receipt.{Receipt}
 use Rattle.def_standard.specs.Chunks.{coversOf}
 use Rattle.def_standard.specs.Listing.{listFrom}
 use Rattle.def_standard.specs.Range.{sizeOf, aheadOf, rangeOf, inside, numberOf}
-use Rattle.def_standard.specs.Standard.{valuesOf, isListed, numbersFrom, numbersOf}
+use Rattle.def_standard.specs.Standard.{valuesOf, isListed, numbersFrom, numbersOf, receipt, pairsFrom, pairsOf}
 use Rattle.def_crate.specs.Sequence.{sequenceOf, passes, movedBy}
 use Rattle.def_crate.specs.Crate.{Try, whileFrom, onesIn, tryAt, triesFrom, crateNumbersFrom}
 use Rattle.def_jobs.specs.Shown.{sameRow}
@@ -89,12 +91,18 @@ module _ (t r : ℕ) (thin : t ≤ 16) where
       each-while (λ (x : ℕ). x % 2 ^ t ≡ r) (λ (_ : ℕ) (x : Try). passes (x .start) end (x .number))
       (λ (_ : ℕ) (x : Try). x .number) 0 (triesFrom t start ws) (tries-grid start ws h e)
 
-standard-grid : (f : Fields) (p : ℕ) (ws : List ℕ) → f .thinning ≤ 16
-    → Gridded (f .thinning) 0 (numbersFrom (rangeOf f) p ws)
-unfolding numbersFrom
-standard-grid f p ws thin =
-    each-listed (λ (x : ℕ). x % 2 ^ (f .thinning) ≡ 0) (isListed (rangeOf f)) (λ q (_ : ℕ). numberOf (rangeOf f) q)
-    (λ q _. listed-grid f q thin) p (valuesOf ws)
+module _ (f : Fields) (thin : f .thinning ≤ 16) where
+  pub numbers-grid : (ws : List ℕ) → Each (λ (x : ℕ). x % 2 ^ (f .thinning) ≡ 0) (numbersOf (rangeOf f) ws)
+  unfolding numbersFrom
+  numbers-grid ws =
+      each-listed (λ (x : ℕ). x % 2 ^ (f .thinning) ≡ 0) (isListed (rangeOf f)) (λ q (_ : ℕ). numberOf (rangeOf f) q)
+      (λ q _. listed-grid f q thin) 0 (valuesOf ws)
+
+  pub pairs-grid : (ts : List ℕ) → Each (λ (x : Receipt). x .number % 2 ^ (f .thinning) ≡ 0) (pairsOf (rangeOf f) ts)
+  unfolding pairsFrom
+  pairs-grid ts =
+      each-listed (λ (x : Receipt). x .number % 2 ^ (f .thinning) ≡ 0) (λ q (_ : ℕ). inside (rangeOf f) q)
+      (λ q time. receipt (numberOf (rangeOf f) q) time) (λ q _. listed-grid f q thin) 0 ts
 
 -- ---- nothing listed
 
@@ -160,7 +168,7 @@ module _ (f : Fields) (begin-fits : f .begin < 65536) (end-fits : f .end < 65536
       (nothing-before (numbersOf (fromBegin f) ws) (wide-leads .more) (wide-leads .split ∙ e)) in
       rw (shared-off f n)
       (rows-apart (f .thinning) r inCrate (numbersOf (rangeOf f) ws)
-      (crate-grid (f .thinning) r thin (f .end) (f .begin) ws begin-fits refl) (standard-grid f 0 ws thin)
+      (crate-grid (f .thinning) r thin (f .end) (f .begin) ws begin-fits refl) (numbers-grid f thin ws)
       (λ z. n (ahead-on (f .begin) (f .thinning) z)) empty
       ∙ ap isSome (sym all) ∙ l .goes)
 

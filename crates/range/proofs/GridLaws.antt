@@ -1,7 +1,7 @@
 -- The range of a block's fields, from the first number on its grid on (def_standard's Range): the one place that unfolds
 -- `aheadOf` and `rangeOf`. Assumes nothing.
 --     ahead-on, ahead-off             how far the grid's first number lies ahead, by where begin stands
---     grid-sum                        that number is begin rounded up
+--     grid-sum, sum-on-grid           that number is begin rounded up, and on the grid
 --     ahead-whole                     by thinning 0 it is begin
 --     range-size, range-begin         what is reported on lies on the circle
 --     inside-ahead, number-ahead      a position's test and its number, by d
@@ -13,9 +13,10 @@ use mathlib.Core.Bool.{true, false}
 use native.Mathlib.Nat.{mod-eq-of-lt, mod-lt, mod-self, div-add-mod, mul-mod-left, mod-add-mod, add-mul-mod-self-right}
 use native.Mathlib.Nat.{sub-zero, mod-one}
 use native.Mathlib.Omega.{arith}
-use lib.Dec.{ltb, eqb, lit<}
+use lib.Dec.{ltb, leb, eqb, lit<}
 use lib.Pow.{pow-pos, pow-mono, pow-add, mod-mod-pow}
-use borrow.Author.Tests.{lt-ltb, le-ltb, ltb-true, ltb-false, eq-eqb, ne-eqb, eqb-true, eqb-false}
+use borrow.Author.Tests.{lt-ltb, le-ltb, ltb-true, ltb-false, leb-true, leb-false, eq-eqb, ne-eqb}
+use borrow.Author.Tests.{eqb-true, eqb-false}
 use Rattle.laws.proofs.Tests.{either, both}
 use Rattle.def_wire.specs.declared.Fields.{Fields}
 use Rattle.def_standard.specs.declared.Range.{Range}
@@ -65,6 +66,10 @@ module _ (b t : ℕ) where
       let c : ceilDiv b m ≡ suc q = let above = ceil-above b m (pow-pos t) (suc q) (omega arith) in
       let below = ceil-below b m (pow-pos t) q (omega arith) in omega arith in
       rw (ahead-off n, c) (omega arith))
+
+-- and is on the grid
+pub sum-on-grid : (b t : ℕ) → (b + aheadOf b t) % 2 ^ t ≡ 0
+sum-on-grid b t = ap (λ (n : ℕ). n % 2 ^ t) (grid-sum b t) ∙ mul-mod-left (ceilDiv b (2 ^ t)) (2 ^ t)
 
 -- every number is on the grid of thinning 0
 pub ahead-whole : (b : ℕ) → aheadOf b 0 ≡ 0
@@ -195,8 +200,7 @@ module _ (f : Fields) where
       number-grid (rangeOf f) p h
       ∙ ap (λ (n : ℕ). (b + d) % 2 ^ n % 2 ^ t) e
       ∙ mod-mod-pow (b + d) (16 - t) t
-      ∙ ap (λ (n : ℕ). n % 2 ^ t) (grid-sum b t)
-      ∙ mul-mod-left (ceilDiv b (2 ^ t)) (2 ^ t)
+      ∙ sum-on-grid b t
 
   -- no more of them than the crate counts
   pub inside-fewer : insideCount (rangeOf f) ≤ insideCount (fromBegin f)
@@ -230,3 +234,49 @@ module _ (f : Fields) where
         (λ y. let k : 16 ≤ t = ltb-false _ _ y in
         λ e. n (far-zero b t fits k (sym e ∙ far-first b t fits k))) in
         ne-eqb _ _ away ∙ sym v)
+
+-- ---- begin moved up to the grid
+
+-- from there on there are d numbers less
+size-moved : (b e d : ℕ) → b < 65536 → e < 65536 → d < sizeOf b e → sizeOf ((b + d) % circle) e ≡ sizeOf b e - d
+size-moved b e d h k l =
+    let x = (b + d) % circle in
+    either (eqb b e)
+    (λ u. let same : b ≡ e = eqb-true _ _ u in
+    let less : d < circle = rw u at l in
+    either (eqb x e)
+    (λ t. let z : x ≡ e = eqb-true _ _ t in rw (u, t) (omega arith))
+    (λ t. let z : x ≡ e → ⊥ = eqb-false _ _ t in rw (u, t) (omega arith)))
+    (λ v. let other : b ≡ e → ⊥ = eqb-false _ _ v in
+    let less : d < (e + circle - b) % circle = rw v at l in
+    either (eqb x e)
+    (λ t. let z : x ≡ e = eqb-true _ _ t in absurd (omega arith))
+    (λ t. let z : x ≡ e → ⊥ = eqb-false _ _ t in rw (v, t) (omega arith)))
+
+-- and it is on the grid
+moved-on-grid : (b t : ℕ) → b < 65536 → aheadOf ((b + aheadOf b t) % circle) t ≡ 0
+moved-on-grid b t h =
+    either (leb t 16)
+    (λ u. let k : t ≤ 16 = leb-true _ _ u in
+    let e : 16 ≡ 16 - t + t = omega arith in
+    let x = b + aheadOf b t in
+    ahead-on (x % circle) t (ap (λ (n : ℕ). x % 2 ^ n % 2 ^ t) e ∙ mod-mod-pow x (16 - t) t ∙ sum-on-grid b t))
+    (λ v. let k : 16 < t = leb-false _ _ v in
+    let z : (b + aheadOf b t) % circle ≡ 0 = far-first b t h (omega arith) in
+    rw z (far-zero 0 t (omega arith) (omega arith) refl))
+
+pub range-moved : (f : Fields) → f .begin < 65536 → f .end < 65536
+    → aheadOf (f .begin) (f .thinning) < sizeOf (f .begin) (f .end)
+    → rangeOf (record {
+      ssrc = f .ssrc;
+      begin = (f .begin + aheadOf (f .begin) (f .thinning)) % circle;
+      end = f .end;
+      thinning = f .thinning;
+    }) ≡ rangeOf f
+unfolding rangeOf
+range-moved f h k l =
+    let d = aheadOf (f .begin) (f .thinning) in
+    let b = (f .begin + d) % circle in
+    let z : (b + 0) % 65536 ≡ b = omega arith in
+    rw (moved-on-grid (f .begin) (f .thinning) h, z, sub-zero (sizeOf b (f .end)))
+    (rw (size-moved (f .begin) (f .end) d h k l))
