@@ -6,7 +6,7 @@ use Rattle.def_wire.specs.Bytes.{pairUp}
 use Rattle.def_wire.specs.Packet.{headerOf, placeOf, walkFrom, countOf, locate}
 use Rattle.def_wire.specs.Block.{rleOf, rangedOf, kindOf, standardRule, crateRule, fitness, checkOf, fieldsOf, timeOf}
 use Rattle.def_standard.specs.Chunks.{valuesIn, chunkOf, wordOf}
-use Rattle.def_standard.specs.Range.{rangeOf, offsetOf, inside, numberOf}
+use Rattle.def_standard.specs.Range.{aheadOf, rangeOf, offsetOf, inside, numberOf}
 use Rattle.def_standard.specs.Standard.{valuesOf, numbersFrom, pairsFrom, echoesOf}
 use Rattle.def_crate.specs.Sequence.{passes, offsetSequence}
 use Rattle.def_crate.specs.Crate.{onesIn, triesFrom, crateNumbersFrom, cratePairsFrom}
@@ -23,7 +23,7 @@ unfolding numbered answerOf filledOf pairUp headerOf placeOf walkFrom countOf lo
     valuesOf numbersFrom pairsFrom echoesOf passes offsetSequence onesIn triesFrom crateNumbersFrom cratePairsFrom
     wordsShown numbersShown pairsShown entriesShown wordsAsked numbersAsked pairsAsked entriesAsked fieldsAsked
     timeAsked wordsBy numbersBy fieldsBy legal stepOf listedAt takenBy afterSteps listedBy stepsLeft advanceFault
-    advanceOf stretchFilled
+    advanceOf stretchFilled aheadOf
 places-hold =
     record {
       written = (refl, refl);
@@ -42,7 +42,7 @@ unfolding numbered answerOf filledOf pairUp headerOf placeOf walkFrom countOf lo
     valuesOf numbersFrom pairsFrom echoesOf passes offsetSequence onesIn triesFrom crateNumbersFrom cratePairsFrom
     wordsShown numbersShown pairsShown entriesShown wordsAsked numbersAsked pairsAsked entriesAsked fieldsAsked
     timeAsked wordsBy numbersBy fieldsBy legal stepOf listedAt takenBy afterSteps listedBy stepsLeft advanceFault
-    advanceOf stretchFilled
+    advanceOf stretchFilled aheadOf
 one-step-hold =
     record {
       next-position = refl;
@@ -60,7 +60,7 @@ unfolding numbered answerOf filledOf pairUp headerOf placeOf walkFrom countOf lo
     valuesOf numbersFrom pairsFrom echoesOf passes offsetSequence onesIn triesFrom crateNumbersFrom cratePairsFrom
     wordsShown numbersShown pairsShown entriesShown wordsAsked numbersAsked pairsAsked entriesAsked fieldsAsked
     timeAsked wordsBy numbersBy fieldsBy legal stepOf listedAt takenBy afterSteps listedBy stepsLeft advanceFault
-    advanceOf stretchFilled
+    advanceOf stretchFilled aheadOf
 steps-hold =
     record {
       taken = refl;
@@ -80,7 +80,7 @@ unfolding numbered answerOf filledOf pairUp headerOf placeOf walkFrom countOf lo
     valuesOf numbersFrom pairsFrom echoesOf passes offsetSequence onesIn triesFrom crateNumbersFrom cratePairsFrom
     wordsShown numbersShown pairsShown entriesShown wordsAsked numbersAsked pairsAsked entriesAsked fieldsAsked
     timeAsked wordsBy numbersBy fieldsBy legal stepOf listedAt takenBy afterSteps listedBy stepsLeft advanceFault
-    advanceOf stretchFilled
+    advanceOf stretchFilled aheadOf
 faults-hold =
     record {
       sixteen = (refl, refl);

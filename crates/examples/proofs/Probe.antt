@@ -7,7 +7,7 @@ use Rattle.def_wire.specs.Packet.{headerOf, placeOf, walkFrom, countOf, locate}
 use Rattle.def_wire.specs.Block.{rleOf, rangedOf, kindOf, standardRule, crateRule, fitness, checkOf, fieldsOf, timeOf}
 use Rattle.def_wire.specs.Block.{has, clearRule}
 use Rattle.def_standard.specs.Chunks.{valuesIn, chunkOf, wordOf}
-use Rattle.def_standard.specs.Range.{rangeOf, offsetOf, inside, numberOf}
+use Rattle.def_standard.specs.Range.{aheadOf, rangeOf, offsetOf, inside, numberOf}
 use Rattle.def_standard.specs.Standard.{valuesOf, numbersFrom, pairsFrom, echoesOf}
 use Rattle.def_crate.specs.Sequence.{passes, offsetSequence}
 use Rattle.def_crate.specs.Crate.{onesIn, triesFrom, crateNumbersFrom, cratePairsFrom}
@@ -46,7 +46,7 @@ unfolding numbered answerOf filledOf pairUp headerOf placeOf walkFrom countOf lo
     pairNumbers entryNumbers takenLine wordLine blocksLine viewLine packetLine readingText dumpText lineIn numbersText
     wordsText pairsText entriesText typedReply listReply wordsReply numbersReply shownText shownReply stretchOn
     stretchIn stretchText stretchReply writtenText writtenReply chunkAsked madeText madeReply parsedText parsedReply
-    marksText marksReply viewText viewReply answerTo
+    marksText marksReply viewText viewReply answerTo aheadOf
 parts-hold =
     record {
       of-a-reply = (refl, refl, refl, refl);
@@ -69,7 +69,7 @@ unfolding numbered answerOf filledOf pairUp headerOf placeOf walkFrom countOf lo
     pairNumbers entryNumbers takenLine wordLine blocksLine viewLine packetLine readingText dumpText lineIn numbersText
     wordsText pairsText entriesText typedReply listReply wordsReply numbersReply shownText shownReply stretchOn
     stretchIn stretchText stretchReply writtenText writtenReply chunkAsked madeText madeReply parsedText parsedReply
-    marksText marksReply viewText viewReply answerTo
+    marksText marksReply viewText viewReply answerTo aheadOf
 of-dump-hold =
     record {
       a-dump = refl;
@@ -87,7 +87,7 @@ unfolding numbered answerOf filledOf pairUp headerOf placeOf walkFrom countOf lo
     pairNumbers entryNumbers takenLine wordLine blocksLine viewLine packetLine readingText dumpText lineIn numbersText
     wordsText pairsText entriesText typedReply listReply wordsReply numbersReply shownText shownReply stretchOn
     stretchIn stretchText stretchReply writtenText writtenReply chunkAsked madeText madeReply parsedText parsedReply
-    marksText marksReply viewText viewReply answerTo has clearRule
+    marksText marksReply viewText viewReply answerTo has clearRule aheadOf
 of-lists-hold =
     record {
       numbers = (refl, refl, refl, refl);
@@ -116,7 +116,7 @@ unfolding numbered answerOf filledOf pairUp headerOf placeOf walkFrom countOf lo
     pairNumbers entryNumbers takenLine wordLine blocksLine viewLine packetLine readingText dumpText lineIn numbersText
     wordsText pairsText entriesText typedReply listReply wordsReply numbersReply shownText shownReply stretchOn
     stretchIn stretchText stretchReply writtenText writtenReply chunkAsked madeText madeReply parsedText parsedReply
-    marksText marksReply viewText viewReply answerTo has clearRule
+    marksText marksReply viewText viewReply answerTo has clearRule aheadOf
 of-blocks-hold =
     record {
       fields = (refl, refl, refl, refl, refl);
@@ -141,7 +141,7 @@ unfolding numbered answerOf filledOf pairUp headerOf placeOf walkFrom countOf lo
     pairNumbers entryNumbers takenLine wordLine blocksLine viewLine packetLine readingText dumpText lineIn numbersText
     wordsText pairsText entriesText typedReply listReply wordsReply numbersReply shownText shownReply stretchOn
     stretchIn stretchText stretchReply writtenText writtenReply chunkAsked madeText madeReply parsedText parsedReply
-    marksText marksReply viewText viewReply answerTo has clearRule
+    marksText marksReply viewText viewReply answerTo has clearRule aheadOf
 of-stretches-hold =
     record {
       a-stretch = (refl, refl);
@@ -163,7 +163,7 @@ unfolding numbered answerOf filledOf pairUp headerOf placeOf walkFrom countOf lo
     pairNumbers entryNumbers takenLine wordLine blocksLine viewLine packetLine readingText dumpText lineIn numbersText
     wordsText pairsText entriesText typedReply listReply wordsReply numbersReply shownText shownReply stretchOn
     stretchIn stretchText stretchReply writtenText writtenReply chunkAsked madeText madeReply parsedText parsedReply
-    marksText marksReply viewText viewReply answerTo has clearRule
+    marksText marksReply viewText viewReply answerTo has clearRule aheadOf
 of-writing-hold =
     record {
       plain = (refl, refl);
@@ -190,7 +190,7 @@ unfolding numbered answerOf filledOf pairUp headerOf placeOf walkFrom countOf lo
     pairNumbers entryNumbers takenLine wordLine blocksLine viewLine packetLine readingText dumpText lineIn numbersText
     wordsText pairsText entriesText typedReply listReply wordsReply numbersReply shownText shownReply stretchOn
     stretchIn stretchText stretchReply writtenText writtenReply chunkAsked madeText madeReply parsedText parsedReply
-    marksText marksReply viewText viewReply answerTo
+    marksText marksReply viewText viewReply answerTo aheadOf
 not-served-hold =
     record {
       others = (refl, refl, refl);

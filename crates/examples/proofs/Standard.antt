@@ -6,14 +6,14 @@ use Rattle.def_wire.specs.Bytes.{pairUp}
 use Rattle.def_wire.specs.Packet.{headerOf, placeOf, walkFrom, countOf, locate}
 use Rattle.def_wire.specs.Block.{rleOf, rangedOf, kindOf, standardRule, crateRule, fitness, checkOf, fieldsOf, timeOf}
 use Rattle.def_standard.specs.Chunks.{valuesIn, chunkOf, wordOf}
-use Rattle.def_standard.specs.Range.{rangeOf, offsetOf, inside, numberOf}
+use Rattle.def_standard.specs.Range.{aheadOf, rangeOf, offsetOf, inside, numberOf}
 use Rattle.def_standard.specs.Standard.{valuesOf, numbersFrom, pairsFrom, echoesOf}
 use Rattle.examples.specs.Standard.{ChunkWords, Ranges, Lists, OfABlock}
 
 pub chunk-words-hold : ChunkWords
 unfolding numbered answerOf filledOf pairUp headerOf placeOf walkFrom countOf locate rleOf rangedOf kindOf
     standardRule crateRule fitness checkOf fieldsOf timeOf valuesIn chunkOf wordOf rangeOf offsetOf inside numberOf
-    valuesOf numbersFrom pairsFrom echoesOf
+    valuesOf numbersFrom pairsFrom echoesOf aheadOf
 chunk-words-hold =
     record {
       covers = refl;
@@ -39,7 +39,7 @@ chunk-words-hold =
 pub ranges-hold : Ranges
 unfolding numbered answerOf filledOf pairUp headerOf placeOf walkFrom countOf locate rleOf rangedOf kindOf
     standardRule crateRule fitness checkOf fieldsOf timeOf valuesIn chunkOf wordOf rangeOf offsetOf inside numberOf
-    valuesOf numbersFrom pairsFrom echoesOf
+    valuesOf numbersFrom pairsFrom echoesOf aheadOf
 ranges-hold =
     record {
       size = (refl, refl, refl, refl, refl, refl, refl);
@@ -53,7 +53,7 @@ ranges-hold =
 pub lists-hold : Lists
 unfolding numbered answerOf filledOf pairUp headerOf placeOf walkFrom countOf locate rleOf rangedOf kindOf
     standardRule crateRule fitness checkOf fieldsOf timeOf valuesIn chunkOf wordOf rangeOf offsetOf inside numberOf
-    valuesOf numbersFrom pairsFrom echoesOf
+    valuesOf numbersFrom pairsFrom echoesOf aheadOf
 lists-hold =
     record {
       by-positions = refl;
@@ -72,7 +72,7 @@ lists-hold =
 pub of-a-block-hold : OfABlock
 unfolding numbered answerOf filledOf pairUp headerOf placeOf walkFrom countOf locate rleOf rangedOf kindOf
     standardRule crateRule fitness checkOf fieldsOf timeOf valuesIn chunkOf wordOf rangeOf offsetOf inside numberOf
-    valuesOf numbersFrom pairsFrom echoesOf
+    valuesOf numbersFrom pairsFrom echoesOf aheadOf
 of-a-block-hold =
     record {
       chunk-words = (refl, refl);
