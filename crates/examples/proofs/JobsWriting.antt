@@ -71,5 +71,6 @@ fifteen-of-reports-hold =
       does-not = (refl, refl);
       wrapped = (refl, refl, refl, refl);
       whole-circle = (refl, refl, refl);
+      whole-circle-off-the-grid = (refl, refl, refl);
       last-word-kept = refl;
     }

@@ -67,7 +67,7 @@ pub record Blocks : Type 0 where
   pub times :
       blockText Standard 0 (rows (0x03020004 ∷ 7 ∷ 0x00050014 ∷ 100 ∷ 200 ∷ []))
       ≡ textOf
-      ("block 0 type 3 length 20" ∷ "ssrc 7 begin 5 end 20 thinning 2" ∷ "pairs 5 100 9 200" ∷ [])
+      ("block 0 type 3 length 20" ∷ "ssrc 7 begin 5 end 20 thinning 2" ∷ "pairs 8 100 12 200" ∷ [])
   pub clock :
       blockText Standard 5 (rows (0x04000002 ∷ 1 ∷ 2 ∷ []))
       ≡ textOf ("block 5 type 4 length 12" ∷ "time 4294967298" ∷ [])

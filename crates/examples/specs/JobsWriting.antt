@@ -84,9 +84,15 @@ pub record FifteenOfReports : Type 0 where
       × (one-loss 0 0 15 (16386 ∷ []) ≡ shown (packet (0x010f0003 ∷ 7 ∷ 0 ∷ 0x40020000 ∷ [])))
   -- begin = end by 4096: 16 positions are inside. The 17th passes where its word begins at begin again, else it fails
   pub whole-circle :
+      (one-loss 4096 4096 12 (16400 ∷ 16385 ∷ []) ≡ refused (Misleads 0))
+      × (one-loss 4096 4096 12 (16399 ∷ 16385 ∷ 16385 ∷ []) ≡ refused (Misleads 0))
+      × (one-loss 4096 4096 12 (16399 ∷ 16386 ∷ [])
+      ≡ shown (packet (0x010c0004 ∷ 7 ∷ 0x10001000 ∷ 0x400f4002 ∷ 0 ∷ [])))
+  -- the same off the grid: the crate's numbers are others
+  pub whole-circle-off-the-grid :
       (one-loss 5 5 12 (16400 ∷ 16385 ∷ []) ≡ refused (Misleads 0))
       × (one-loss 5 5 12 (16399 ∷ 16385 ∷ 16385 ∷ []) ≡ refused (Misleads 0))
-      × (one-loss 5 5 12 (16399 ∷ 16386 ∷ []) ≡ shown (packet (0x010c0004 ∷ 7 ∷ 0x00050005 ∷ 0x400f4002 ∷ 0 ∷ [])))
+      × (one-loss 5 5 12 (16399 ∷ 16386 ∷ []) ≡ refused (Misleads 0))
   -- the careful layout is what the crate reads: two ones in two words, the last not skipped
   pub last-word-kept :
       one-loss 10 14 0 (16386 ∷ 16386 ∷ []) ≡ shown (packet (0x01000004 ∷ 7 ∷ 0x000a000e ∷ 0x40024002 ∷ 0 ∷ []))

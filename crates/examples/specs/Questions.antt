@@ -128,7 +128,7 @@ pub record OfAPacket : Type 0 where
       (wordsAsked Standard five-blocks 0 Loss ≡ shown (16386 ∷ 16387 ∷ []))
       × (wordsAsked Crate five-blocks 0 Loss ≡ shown (16386 ∷ []))
   pub numbers :
-      (numbersAsked Standard five-blocks 0 Loss ≡ shown (10 ∷ []))
+      (numbersAsked Standard five-blocks 0 Loss ≡ shown (12 ∷ []))
       × (numbersAsked Crate five-blocks 0 Loss ≡ shown (10 ∷ []))
   pub pairs :
       (pairsAsked Standard five-blocks 1 ≡ shown (pair 5 100 ∷ []))
@@ -222,7 +222,7 @@ pub record ByNumber : Type 0 where
   pub served :
       (wordsBy Standard five-blocks 0 1 ≡ shown (16386 ∷ 16387 ∷ []))
       × (wordsBy Crate five-blocks 0 1 ≡ shown (16386 ∷ []))
-      × (numbersBy Standard five-blocks 0 1 ≡ shown (10 ∷ []))
+      × (numbersBy Standard five-blocks 0 1 ≡ shown (12 ∷ []))
       × (fieldsBy Standard five-blocks 0 1 ≡ Shown (fields 7 10 14 2))
       × (fieldsBy Standard five-blocks 1 3 ≡ Shown (fields 8 5 6 0))
   pub served-by-two :

@@ -85,7 +85,7 @@ pub record Ranges : Type 0 where
   pub size :
       (sizeOf 10 14 ≡ 4) × (sizeOf 65534 2 ≡ 4) × (sizeOf 1 0 ≡ 65535) × (sizeOf 0 65535 ≡ 65535) × (sizeOf 0 1 ≡ 1)
       × (sizeOf 5 5 ≡ 65536) × (sizeOf 0 0 ≡ 65536)
-  pub of-fields : rangeOf (fields 7 65530 2 3) ≡ range 65530 8 3
+  pub of-fields : rangeOf (fields 7 65530 2 3) ≡ range 0 2 3
   -- p · 2^T, which does not wrap
   pub offset :
       (offsetOf (range 9 1 0) 5 ≡ 5) × (offsetOf (range 9 1 3) 5 ≡ 40) × (offsetOf (range 9 1 15) 2 ≡ 65536)
@@ -148,7 +148,7 @@ pub record OfABlock : Type 0 where
       × (standardWords (rows (0x01000002 ∷ 7 ∷ 0x000a000e ∷ [])) ≡ [])
   pub numbers : standardNumbers (rows (0x01010003 ∷ 7 ∷ 0x000a0010 ∷ 0x40024002 ∷ [])) ≡ 10 ∷ 12 ∷ 14 ∷ []
   pub none : standardNumbers (rows (0x01000002 ∷ 7 ∷ 0x000a000e ∷ [])) ≡ []
-  pub times : standardPairs (rows (0x03010004 ∷ 7 ∷ 0x00050009 ∷ 100 ∷ 200 ∷ [])) ≡ pair 5 100 ∷ pair 7 200 ∷ []
+  pub times : standardPairs (rows (0x03010004 ∷ 7 ∷ 0x00050009 ∷ 100 ∷ 200 ∷ [])) ≡ pair 6 100 ∷ pair 8 200 ∷ []
   pub entries :
       (entriesOf (rows (0x05000006 ∷ 1 ∷ 2 ∷ 3 ∷ 4 ∷ 5 ∷ 6 ∷ [])) ≡ echo 1 2 3 ∷ echo 4 5 6 ∷ [])
       × (entriesOf (rows (0x05000000 ∷ [])) ≡ [])
