@@ -58,4 +58,5 @@ of-what-is-left-hold =
       words = (refl, refl, refl);
       numbers = (refl, refl, refl);
       times = (refl, refl, refl, refl);
+      off-the-grid = (refl, refl, refl, refl, refl);
     }

@@ -43,10 +43,17 @@ unfolding numbered answerOf filledOf pairUp headerOf placeOf walkFrom countOf lo
 ranges-hold =
     record {
       size = (refl, refl, refl, refl, refl, refl, refl);
-      of-fields = refl;
+      ahead = (refl, refl, refl);
+      ahead-far = (refl, refl, refl);
+      of-fields = (refl, refl, refl, refl, refl, refl, refl);
+      end-first = refl;
+      end-first-wrapped = refl;
+      begin-is-end = (refl, refl, refl, refl);
       offset = (refl, refl, refl, refl);
       is-inside = (refl, refl, refl, refl, refl);
       number = (refl, refl, refl, refl);
+      on-the-grid = (refl, refl, refl, refl, refl, refl);
+      round = (refl, refl, refl, refl);
       all-numbers = refl;
     }
 
@@ -79,5 +86,7 @@ of-a-block-hold =
       numbers = refl;
       none = refl;
       times = refl;
+      off-the-grid = (refl, refl, refl, refl, refl, refl);
+      times-off-the-grid = (refl, refl, refl, refl);
       entries = (refl, refl);
     }
