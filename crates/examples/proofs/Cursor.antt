@@ -52,6 +52,7 @@ one-step-hold =
       listed = (refl, refl, refl, refl, refl, refl);
       listed-none = (refl, refl);
       listed-stopped = refl;
+      listed-round = (refl, refl);
     }
 
 pub steps-hold : Steps
@@ -71,6 +72,7 @@ steps-hold =
       after-stopped = refl;
       listed = (refl, refl, refl, refl, refl, refl, refl, refl);
       listed-from-here = (refl, refl);
+      listed-off-the-grid = (refl, refl, refl, refl);
       left = (refl, refl, refl, refl, refl);
     }
 
@@ -86,7 +88,7 @@ faults-hold =
       sixteen = (refl, refl);
       eleven = (refl, refl, refl, refl);
       by-the-budget = refl;
-      a-stretch = (refl, refl);
+      a-stretch = (refl, refl, refl, refl);
       answer = (refl, refl);
       left-behind = (refl, refl);
     }

@@ -34,7 +34,10 @@ of-a-view-hold =
       none-taken = (refl, refl, refl);
       stuck = (refl, refl);
       filled = (refl, refl, refl, refl, refl, refl);
+      off-the-grid = (refl, refl, refl, refl, refl, refl, refl);
+      none-on-the-grid = (refl, refl, refl, refl);
       contract = (
+        record { answer = refl; filled = refl },
         record { answer = refl; filled = refl },
         record { answer = refl; filled = refl },
         record { answer = refl; filled = refl },

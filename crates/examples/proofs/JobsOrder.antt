@@ -36,6 +36,8 @@ fifteen-of-times-hold =
       taken-for-times = (refl, refl);
       position-p-fails = (refl, refl);
       position-p-passes = (refl, refl);
+      off-the-grid = (refl, refl, refl, refl);
+      none-misled = (refl, refl, refl, refl);
     }
 
 pub fifteen-of-entries-hold : FifteenOfEntries
@@ -63,7 +65,7 @@ unfolding numbered answerOf filledOf pairUp headerOf placeOf walkFrom countOf lo
     blockBytes blocksBytes layoutOf misleadingFrom writeFault packetOf has clearRule aheadOf
 order-hold =
     record {
-      first-misleading = refl;
+      first-misleading = (refl, refl);
       plain-writes = refl;
       never-fifteen = (refl, refl, refl, refl);
       blocks = (refl, refl, refl, refl);

@@ -40,6 +40,7 @@ of-a-block-hold =
       other = (refl, refl, refl);
       refusal = (refl, refl, refl, refl, refl, refl, refl);
       lost-run = (refl, refl);
+      off-the-grid = (refl, refl, refl, refl);
     }
 
 pub the-same-hold : TheSame

@@ -20,7 +20,7 @@ use Rattle.def_jobs.specs.Shown.{recordOf, numbersRow}
 use Rattle.def_jobs.specs.Jobs.{pairLow, jobsFrom, isHeaderJob, isBlockJob, jobsFault, askedOf}
 use Rattle.def_jobs.specs.Layout.{zerosBehind, blockBytes, blocksBytes, layoutOf}
 use Rattle.def_jobs.specs.Writing.{misleadingFrom, writeFault, packetOf}
-use Rattle.examples.specs.JobsWriting.{Fourteen, Misled, FifteenOfReports}
+use Rattle.examples.specs.JobsWriting.{Fourteen, Misled, FifteenOfReports, FifteenOffTheGrid}
 
 pub fourteen-hold : Fourteen
 unfolding numbered answerOf filledOf pairUp headerOf placeOf walkFrom countOf locate rleOf rangedOf kindOf
@@ -71,6 +71,25 @@ fifteen-of-reports-hold =
       does-not = (refl, refl);
       wrapped = (refl, refl, refl, refl);
       whole-circle = (refl, refl, refl);
-      whole-circle-off-the-grid = (refl, refl, refl);
       last-word-kept = refl;
+    }
+
+pub fifteen-off-the-grid-hold : FifteenOffTheGrid
+unfolding numbered answerOf filledOf pairUp headerOf placeOf walkFrom countOf locate rleOf rangedOf kindOf
+    standardRule crateRule fitness checkOf fieldsOf timeOf valuesIn chunkOf wordOf rangeOf offsetOf inside numberOf
+    valuesOf numbersFrom pairsFrom echoesOf passes offsetSequence onesIn triesFrom crateNumbersFrom cratePairsFrom
+    wordsShown numbersShown pairsShown entriesShown wordsAsked numbersAsked pairsAsked entriesAsked fieldsAsked
+    timeAsked wordsBy numbersBy fieldsBy legal stepOf listedAt takenBy afterSteps listedBy stepsLeft advanceFault
+    advanceOf stretchFilled recordOf numbersRow pairLow jobsFrom isHeaderJob isBlockJob jobsFault askedOf zerosBehind
+    blockBytes blocksBytes layoutOf misleadingFrom writeFault packetOf has clearRule aheadOf
+fifteen-off-the-grid-hold =
+    record {
+      does = (refl, refl, refl, refl, refl);
+      whole-circle = (refl, refl, refl);
+      nothing-asked = (refl, refl, refl);
+      no-ones = (refl, refl, refl);
+      first-fails = (refl, refl);
+      moved-up = (refl, refl);
+      written = (refl, refl, refl);
+      read-back = (refl, refl);
     }

@@ -27,6 +27,7 @@ unfolding pairUp rleOf rangedOf kindOf standardRule valuesIn rangeOf offsetOf in
 one-call-hold =
     record {
       adds = (refl, refl, refl);
+      off-the-grid = (refl, refl, refl);
       none = (refl, refl, refl);
       room = (refl, refl, refl);
       past = (refl, refl, refl);

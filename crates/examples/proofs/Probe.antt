@@ -98,6 +98,7 @@ of-lists-hold =
       types-not-served = (refl, refl, refl, refl, refl, refl);
       words = (refl, refl, refl, refl);
       lost-run = (refl, refl, refl, refl, refl, refl, refl);
+      off-the-grid = (refl, refl, refl, refl, refl, refl);
       of-any-type = (refl, refl);
       cut-lists = (refl, refl, refl);
       cut-words = (refl, refl, refl);
@@ -146,6 +147,7 @@ of-stretches-hold =
     record {
       a-stretch = (refl, refl);
       steps-and-numbers = refl;
+      off-the-grid = (refl, refl, refl);
       refused-stretches = (refl, refl, refl, refl, refl);
       lost-run = (refl, refl, refl);
       cut-stretch = (refl, refl);
@@ -168,6 +170,7 @@ of-writing-hold =
     record {
       plain = (refl, refl);
       careful = (refl, refl);
+      off-the-grid = (refl, refl, refl);
       lost-run = (refl, refl, refl);
       a-word = (refl, refl, refl, refl);
       no-word = (refl, refl, refl, refl);

@@ -28,6 +28,7 @@ of-portions-hold =
       again = (refl, refl);
       stays = (refl, refl);
       lost-run = (refl, refl, refl, refl);
+      off-the-grid = refl;
       room = refl;
       not-whole = (refl, refl, refl);
       line = refl;

@@ -36,6 +36,8 @@ of-a-view-hold =
       pairs = (refl, refl);
       entries = (refl, refl);
       readings-differ = (refl, refl);
+      off-the-grid = (refl, refl, refl, refl, refl, refl);
+      none-on-the-grid = (refl, refl, refl, refl);
     }
 
 pub of-a-packet-hold : OfAPacket
