@@ -26,8 +26,8 @@ an-echo = echoes (10 ∷ 11 ∷ 12 ∷ [])
 abbrev pub four-bytes : List ℕ
 four-bytes = echoes []
 
--- 15, of type 3: K own times, M times up to the packet's end, P positions inside. It misleads unless M = K ≤ P, or
--- K ≥ P and position P fails the crate's test
+-- 15, of type 3: K own times, M times up to the packet's end, P positions inside. With a begin on the grid it misleads
+-- unless M = K ≤ P, or K ≥ P and position P fails the crate's test; with one off it, wherever M > 0
 pub record FifteenOfTimes : Type 0 where
   -- M = K ≤ P: nothing behind it, fewer times than positions and just as many
   pub all-its-own :

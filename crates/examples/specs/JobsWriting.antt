@@ -66,7 +66,8 @@ pub record Misled : Type 0 where
       (misleadFault Plain packet10 2 ≡ Fine) × (misleadFault Careful packet10 2 ≡ Unfit (Misleads 0))
       × (misleadFault Careful packet10 0 ≡ Fine)
 
--- 15, of types 1 and 2: the first one-valued position outside the range passes the crate's test
+-- 15, of types 1 and 2 with a begin on the grid: the first one-valued position outside the range passes the crate's
+-- test
 pub record FifteenOfReports : Type 0 where
   -- the moved start has passed the end; the words before may be zeros; of type 2 as well
   pub does :
@@ -93,15 +94,16 @@ pub record FifteenOfReports : Type 0 where
   pub last-word-kept :
       one-loss 10 14 0 (16386 ∷ 16386 ∷ []) ≡ shown (packet (0x01000004 ∷ 7 ∷ 0x000a000e ∷ 0x40024002 ∷ 0 ∷ []))
 
--- 15, of types 1 and 2 with a begin off the grid: the first one-valued position at all passes the crate's test, since
--- the crate's numbers are then never the standard's
+-- 15, of types 1 and 2 with a begin off the grid: the first one-valued position at all passes the crate's test. The
+-- crate's numbers are then never the standard's
 pub record FifteenOffTheGrid : Type 0 where
   -- the first and the only one, one behind zeros, one past 65535, one of type 2
   pub does :
       (one-loss 5 20 2 (16385 ∷ []) ≡ refused (Misleads 0)) × (one-loss 5 20 2 (3 ∷ 16385 ∷ []) ≡ refused (Misleads 0))
-      × (one-loss 65533 10 2 (16385 ∷ []) ≡ refused (Misleads 0)) × (one-loss 1 0 15 (16385 ∷ []) ≡ refused (Misleads 0))
+      × (one-loss 65533 10 2 (16385 ∷ []) ≡ refused (Misleads 0))
+      × (one-loss 1 0 15 (16385 ∷ []) ≡ refused (Misleads 0))
       × (packetOf Careful (header 0 ++ report 2 5 20 2 (16385 ∷ [])) ≡ refused (Misleads 0))
-  -- round the whole circle, where the same words from 4096 on are written
+  -- round the whole circle, with the words above
   pub whole-circle :
       (one-loss 5 5 12 (16400 ∷ 16385 ∷ []) ≡ refused (Misleads 0))
       × (one-loss 5 5 12 (16399 ∷ 16385 ∷ 16385 ∷ []) ≡ refused (Misleads 0))

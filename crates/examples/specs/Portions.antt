@@ -205,7 +205,8 @@ pub record SoFar : Type 0 where
   -- a begin off the grid, and a block behind it
   pub off-the-grid :
       (courseOf (take 22 off) ≡ course (Header 28 1 ∷ off-start ∷ Number 8 ∷ Number 12 ∷ []) Fine)
-      × (courseOf off ≡ course (Header 28 1 ∷ off-start ∷ Number 8 ∷ Number 12 ∷ Number 16 ∷ Start 99 4 ∷ End ∷ []) Fine)
+      × (courseOf off
+      ≡ course (Header 28 1 ∷ off-start ∷ Number 8 ∷ Number 12 ∷ Number 16 ∷ Start 99 4 ∷ End ∷ []) Fine)
   pub no-fuel : blocksFrom (packet []) 8 0 8 ≡ quiet
   -- 7 and 6 at a block's fourth byte: its start is not told, nor what is behind it
   pub seven :
