@@ -6,7 +6,7 @@ use Rattle.def_wire.specs.Bytes.{pairUp}
 use Rattle.def_wire.specs.Packet.{headerOf, placeOf, walkFrom, countOf, locate}
 use Rattle.def_wire.specs.Block.{rleOf, rangedOf, kindOf, standardRule, crateRule, fitness, checkOf, fieldsOf, timeOf}
 use Rattle.def_standard.specs.Chunks.{valuesIn, chunkOf, wordOf}
-use Rattle.def_standard.specs.Range.{rangeOf, offsetOf, inside, numberOf}
+use Rattle.def_standard.specs.Range.{aheadOf, rangeOf, offsetOf, inside, numberOf}
 use Rattle.def_standard.specs.Standard.{valuesOf, numbersFrom, pairsFrom, echoesOf}
 use Rattle.def_crate.specs.Sequence.{passes, offsetSequence}
 use Rattle.def_crate.specs.Crate.{onesIn, triesFrom, crateNumbersFrom, cratePairsFrom}
@@ -16,6 +16,7 @@ pub sequence-hold : Sequence
 unfolding numbered answerOf filledOf pairUp headerOf placeOf walkFrom countOf locate rleOf rangedOf kindOf
     standardRule crateRule fitness checkOf fieldsOf timeOf valuesIn chunkOf wordOf rangeOf offsetOf inside numberOf
     valuesOf numbersFrom pairsFrom echoesOf passes offsetSequence onesIn triesFrom crateNumbersFrom cratePairsFrom
+    aheadOf
 sequence-hold =
     record {
       doubled = (refl, refl, refl, refl);
@@ -31,6 +32,7 @@ pub crate-lists-hold : CrateLists
 unfolding numbered answerOf filledOf pairUp headerOf placeOf walkFrom countOf locate rleOf rangedOf kindOf
     standardRule crateRule fitness checkOf fieldsOf timeOf valuesIn chunkOf wordOf rangeOf offsetOf inside numberOf
     valuesOf numbersFrom pairsFrom echoesOf passes offsetSequence onesIn triesFrom crateNumbersFrom cratePairsFrom
+    aheadOf
 crate-lists-hold =
     record {
       up-to-a-failure = refl;
@@ -50,9 +52,11 @@ pub of-what-is-left-hold : OfWhatIsLeft
 unfolding numbered answerOf filledOf pairUp headerOf placeOf walkFrom countOf locate rleOf rangedOf kindOf
     standardRule crateRule fitness checkOf fieldsOf timeOf valuesIn chunkOf wordOf rangeOf offsetOf inside numberOf
     valuesOf numbersFrom pairsFrom echoesOf passes offsetSequence onesIn triesFrom crateNumbersFrom cratePairsFrom
+    aheadOf
 of-what-is-left-hold =
     record {
       words = (refl, refl, refl);
       numbers = (refl, refl, refl);
       times = (refl, refl, refl, refl);
+      off-the-grid = (refl, refl, refl, refl, refl);
     }

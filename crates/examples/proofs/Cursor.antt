@@ -6,7 +6,7 @@ use Rattle.def_wire.specs.Bytes.{pairUp}
 use Rattle.def_wire.specs.Packet.{headerOf, placeOf, walkFrom, countOf, locate}
 use Rattle.def_wire.specs.Block.{rleOf, rangedOf, kindOf, standardRule, crateRule, fitness, checkOf, fieldsOf, timeOf}
 use Rattle.def_standard.specs.Chunks.{valuesIn, chunkOf, wordOf}
-use Rattle.def_standard.specs.Range.{rangeOf, offsetOf, inside, numberOf}
+use Rattle.def_standard.specs.Range.{aheadOf, rangeOf, offsetOf, inside, numberOf}
 use Rattle.def_standard.specs.Standard.{valuesOf, numbersFrom, pairsFrom, echoesOf}
 use Rattle.def_crate.specs.Sequence.{passes, offsetSequence}
 use Rattle.def_crate.specs.Crate.{onesIn, triesFrom, crateNumbersFrom, cratePairsFrom}
@@ -23,7 +23,7 @@ unfolding numbered answerOf filledOf pairUp headerOf placeOf walkFrom countOf lo
     valuesOf numbersFrom pairsFrom echoesOf passes offsetSequence onesIn triesFrom crateNumbersFrom cratePairsFrom
     wordsShown numbersShown pairsShown entriesShown wordsAsked numbersAsked pairsAsked entriesAsked fieldsAsked
     timeAsked wordsBy numbersBy fieldsBy legal stepOf listedAt takenBy afterSteps listedBy stepsLeft advanceFault
-    advanceOf stretchFilled
+    advanceOf stretchFilled aheadOf
 places-hold =
     record {
       written = (refl, refl);
@@ -42,7 +42,7 @@ unfolding numbered answerOf filledOf pairUp headerOf placeOf walkFrom countOf lo
     valuesOf numbersFrom pairsFrom echoesOf passes offsetSequence onesIn triesFrom crateNumbersFrom cratePairsFrom
     wordsShown numbersShown pairsShown entriesShown wordsAsked numbersAsked pairsAsked entriesAsked fieldsAsked
     timeAsked wordsBy numbersBy fieldsBy legal stepOf listedAt takenBy afterSteps listedBy stepsLeft advanceFault
-    advanceOf stretchFilled
+    advanceOf stretchFilled aheadOf
 one-step-hold =
     record {
       next-position = refl;
@@ -52,6 +52,7 @@ one-step-hold =
       listed = (refl, refl, refl, refl, refl, refl);
       listed-none = (refl, refl);
       listed-stopped = refl;
+      listed-round = (refl, refl);
     }
 
 pub steps-hold : Steps
@@ -60,7 +61,7 @@ unfolding numbered answerOf filledOf pairUp headerOf placeOf walkFrom countOf lo
     valuesOf numbersFrom pairsFrom echoesOf passes offsetSequence onesIn triesFrom crateNumbersFrom cratePairsFrom
     wordsShown numbersShown pairsShown entriesShown wordsAsked numbersAsked pairsAsked entriesAsked fieldsAsked
     timeAsked wordsBy numbersBy fieldsBy legal stepOf listedAt takenBy afterSteps listedBy stepsLeft advanceFault
-    advanceOf stretchFilled
+    advanceOf stretchFilled aheadOf
 steps-hold =
     record {
       taken = refl;
@@ -71,6 +72,7 @@ steps-hold =
       after-stopped = refl;
       listed = (refl, refl, refl, refl, refl, refl, refl, refl);
       listed-from-here = (refl, refl);
+      listed-off-the-grid = (refl, refl, refl, refl);
       left = (refl, refl, refl, refl, refl);
     }
 
@@ -80,13 +82,13 @@ unfolding numbered answerOf filledOf pairUp headerOf placeOf walkFrom countOf lo
     valuesOf numbersFrom pairsFrom echoesOf passes offsetSequence onesIn triesFrom crateNumbersFrom cratePairsFrom
     wordsShown numbersShown pairsShown entriesShown wordsAsked numbersAsked pairsAsked entriesAsked fieldsAsked
     timeAsked wordsBy numbersBy fieldsBy legal stepOf listedAt takenBy afterSteps listedBy stepsLeft advanceFault
-    advanceOf stretchFilled
+    advanceOf stretchFilled aheadOf
 faults-hold =
     record {
       sixteen = (refl, refl);
       eleven = (refl, refl, refl, refl);
       by-the-budget = refl;
-      a-stretch = (refl, refl);
+      a-stretch = (refl, refl, refl, refl);
       answer = (refl, refl);
       left-behind = (refl, refl);
     }

@@ -7,7 +7,7 @@ use Rattle.def_wire.specs.Packet.{headerOf, placeOf, walkFrom, countOf, locate}
 use Rattle.def_wire.specs.Block.{rleOf, rangedOf, kindOf, standardRule, crateRule, fitness, checkOf, fieldsOf, timeOf}
 use Rattle.def_wire.specs.Block.{has, clearRule}
 use Rattle.def_standard.specs.Chunks.{valuesIn, chunkOf, wordOf}
-use Rattle.def_standard.specs.Range.{rangeOf, offsetOf, inside, numberOf}
+use Rattle.def_standard.specs.Range.{aheadOf, rangeOf, offsetOf, inside, numberOf}
 use Rattle.def_standard.specs.Standard.{valuesOf, numbersFrom, pairsFrom, echoesOf}
 use Rattle.def_crate.specs.Sequence.{passes, offsetSequence}
 use Rattle.def_crate.specs.Crate.{onesIn, triesFrom, crateNumbersFrom, cratePairsFrom}
@@ -24,7 +24,7 @@ unfolding numbered answerOf filledOf pairUp headerOf placeOf walkFrom countOf lo
     valuesOf numbersFrom pairsFrom echoesOf passes offsetSequence onesIn triesFrom crateNumbersFrom cratePairsFrom
     wordsShown numbersShown pairsShown entriesShown wordsAsked numbersAsked pairsAsked entriesAsked fieldsAsked
     timeAsked wordsBy numbersBy fieldsBy legal stepOf listedAt takenBy afterSteps listedBy stepsLeft advanceFault
-    advanceOf stretchFilled has clearRule
+    advanceOf stretchFilled has clearRule aheadOf
 of-a-view-hold =
     record {
       order = (refl, refl, refl, refl, refl);
@@ -34,7 +34,10 @@ of-a-view-hold =
       none-taken = (refl, refl, refl);
       stuck = (refl, refl);
       filled = (refl, refl, refl, refl, refl, refl);
+      off-the-grid = (refl, refl, refl, refl, refl, refl, refl);
+      none-on-the-grid = (refl, refl, refl, refl);
       contract = (
+        record { answer = refl; filled = refl },
         record { answer = refl; filled = refl },
         record { answer = refl; filled = refl },
         record { answer = refl; filled = refl },
@@ -48,7 +51,7 @@ unfolding numbered answerOf filledOf pairUp headerOf placeOf walkFrom countOf lo
     valuesOf numbersFrom pairsFrom echoesOf passes offsetSequence onesIn triesFrom crateNumbersFrom cratePairsFrom
     wordsShown numbersShown pairsShown entriesShown wordsAsked numbersAsked pairsAsked entriesAsked fieldsAsked
     timeAsked wordsBy numbersBy fieldsBy legal stepOf listedAt takenBy afterSteps listedBy stepsLeft advanceFault
-    advanceOf stretchFilled has clearRule
+    advanceOf stretchFilled has clearRule aheadOf
 of-a-packet-hold =
     record {
       moved = (record { answer = refl; filled = refl }, record { answer = refl; filled = refl });
@@ -69,7 +72,7 @@ unfolding numbered answerOf filledOf pairUp headerOf placeOf walkFrom countOf lo
     valuesOf numbersFrom pairsFrom echoesOf passes offsetSequence onesIn triesFrom crateNumbersFrom cratePairsFrom
     wordsShown numbersShown pairsShown entriesShown wordsAsked numbersAsked pairsAsked entriesAsked fieldsAsked
     timeAsked wordsBy numbersBy fieldsBy legal stepOf listedAt takenBy afterSteps listedBy stepsLeft advanceFault
-    advanceOf stretchFilled has clearRule
+    advanceOf stretchFilled has clearRule aheadOf
 lost-run-hold =
     record {
       refusal = (
@@ -93,7 +96,7 @@ unfolding numbered answerOf filledOf pairUp headerOf placeOf walkFrom countOf lo
     valuesOf numbersFrom pairsFrom echoesOf passes offsetSequence onesIn triesFrom crateNumbersFrom cratePairsFrom
     wordsShown numbersShown pairsShown entriesShown wordsAsked numbersAsked pairsAsked entriesAsked fieldsAsked
     timeAsked wordsBy numbersBy fieldsBy legal stepOf listedAt takenBy afterSteps listedBy stepsLeft advanceFault
-    advanceOf stretchFilled has clearRule
+    advanceOf stretchFilled has clearRule aheadOf
 by-number-hold =
     record {
       served = (record { answer = refl; filled = refl }, record { answer = refl; filled = refl });

@@ -6,7 +6,7 @@ use Rattle.def_wire.specs.Packet.{headerOf, placeOf, walkFrom, countOf}
 use Rattle.def_wire.specs.Block.{rleOf, rangedOf, kindOf, standardRule, crateRule, fitness, checkOf, fieldsOf, timeOf}
 use Rattle.def_wire.specs.Block.{has, clearRule}
 use Rattle.def_standard.specs.Chunks.{valuesIn}
-use Rattle.def_standard.specs.Range.{rangeOf, offsetOf, inside, numberOf}
+use Rattle.def_standard.specs.Range.{aheadOf, rangeOf, offsetOf, inside, numberOf}
 use Rattle.def_standard.specs.Standard.{valuesOf, numbersFrom, pairsFrom, echoesOf}
 use Rattle.def_crate.specs.Sequence.{passes}
 use Rattle.def_crate.specs.Crate.{onesIn, triesFrom, crateNumbersFrom, cratePairsFrom}
@@ -40,19 +40,20 @@ pub sample-holds : Sample
 unfolding numbered pairUp headerOf placeOf walkFrom countOf rleOf rangedOf kindOf standardRule crateRule fitness checkOf
     fieldsOf timeOf valuesIn rangeOf offsetOf inside numberOf valuesOf numbersFrom passes onesIn triesFrom
     crateNumbersFrom numbersShown decimalWithin spacedAll refusedLine blockLine fieldsLine listLine listOr contentsOf
-    blockText blocksText readingText dumpText has clearRule
+    blockText blocksText readingText dumpText has clearRule aheadOf
 sample-holds = record { sample = refl }
 
 pub blocks-hold : Blocks
 unfolding numbered pairUp headerOf placeOf walkFrom countOf rleOf rangedOf kindOf standardRule crateRule fitness checkOf
     fieldsOf timeOf valuesIn rangeOf offsetOf inside numberOf valuesOf numbersFrom pairsFrom echoesOf passes onesIn
     triesFrom crateNumbersFrom cratePairsFrom numbersShown pairsShown entriesShown decimalWithin spacedAll refusedLine
-    blockLine fieldsLine timeLine listLine pairNumbers entryNumbers listOr contentsOf blockText has clearRule
+    blockLine fieldsLine timeLine listLine pairNumbers entryNumbers listOr contentsOf blockText has clearRule aheadOf
 blocks-hold =
     record {
       duplicates = refl;
       no-numbers = refl;
       times = refl;
+      times-by-the-crate = refl;
       clock = refl;
       echoes = refl;
       others = (refl, refl);
@@ -67,12 +68,14 @@ unfolding numbered pairUp headerOf placeOf walkFrom countOf rleOf rangedOf kindO
     fieldsOf timeOf valuesIn rangeOf offsetOf inside numberOf valuesOf numbersFrom pairsFrom echoesOf passes onesIn
     triesFrom crateNumbersFrom cratePairsFrom numbersShown pairsShown entriesShown decimalWithin spacedAll refusedLine
     blockLine fieldsLine timeLine listLine pairNumbers entryNumbers listOr contentsOf blockText blocksText readingText
-    dumpText has clearRule
+    dumpText has clearRule aheadOf
 dumps-hold =
     record {
       of-two-blocks = refl;
       of-two-blocks-by-the-crate = refl;
       of-a-lost-run = refl;
+      off-the-grid = refl;
+      none-on-the-grid = refl;
       from-the-second = refl;
       of-no-blocks = refl;
       refused-by-the-standard = refl;

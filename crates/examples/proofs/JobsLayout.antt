@@ -6,7 +6,7 @@ use Rattle.def_wire.specs.Bytes.{pairUp}
 use Rattle.def_wire.specs.Packet.{headerOf, placeOf, walkFrom, countOf, locate}
 use Rattle.def_wire.specs.Block.{rleOf, rangedOf, kindOf, standardRule, crateRule, fitness, checkOf, fieldsOf, timeOf}
 use Rattle.def_standard.specs.Chunks.{valuesIn, chunkOf, wordOf}
-use Rattle.def_standard.specs.Range.{rangeOf, offsetOf, inside, numberOf}
+use Rattle.def_standard.specs.Range.{aheadOf, rangeOf, offsetOf, inside, numberOf}
 use Rattle.def_standard.specs.Standard.{valuesOf, numbersFrom, pairsFrom, echoesOf}
 use Rattle.def_crate.specs.Sequence.{passes, offsetSequence}
 use Rattle.def_crate.specs.Crate.{onesIn, triesFrom, crateNumbersFrom, cratePairsFrom}
@@ -28,7 +28,7 @@ unfolding numbered answerOf filledOf pairUp headerOf placeOf walkFrom countOf lo
     wordsShown numbersShown pairsShown entriesShown wordsAsked numbersAsked pairsAsked entriesAsked fieldsAsked
     timeAsked wordsBy numbersBy fieldsBy legal stepOf listedAt takenBy afterSteps listedBy stepsLeft advanceFault
     advanceOf stretchFilled recordOf numbersRow pairLow jobsFrom isHeaderJob isBlockJob jobsFault askedOf zerosBehind
-    blockBytes blocksBytes layoutOf misleadingFrom writeFault packetOf
+    blockBytes blocksBytes layoutOf misleadingFrom writeFault packetOf aheadOf
 zeros-hold =
     record {
       odd = refl;
@@ -44,7 +44,7 @@ unfolding numbered answerOf filledOf pairUp headerOf placeOf walkFrom countOf lo
     wordsShown numbersShown pairsShown entriesShown wordsAsked numbersAsked pairsAsked entriesAsked fieldsAsked
     timeAsked wordsBy numbersBy fieldsBy legal stepOf listedAt takenBy afterSteps listedBy stepsLeft advanceFault
     advanceOf stretchFilled recordOf numbersRow pairLow jobsFrom isHeaderJob isBlockJob jobsFault askedOf zerosBehind
-    blockBytes blocksBytes layoutOf misleadingFrom writeFault packetOf
+    blockBytes blocksBytes layoutOf misleadingFrom writeFault packetOf aheadOf
 pieces-hold =
     record {
       each-number = (refl, refl);
@@ -62,7 +62,7 @@ unfolding numbered answerOf filledOf pairUp headerOf placeOf walkFrom countOf lo
     wordsShown numbersShown pairsShown entriesShown wordsAsked numbersAsked pairsAsked entriesAsked fieldsAsked
     timeAsked wordsBy numbersBy fieldsBy legal stepOf listedAt takenBy afterSteps listedBy stepsLeft advanceFault
     advanceOf stretchFilled recordOf numbersRow pairLow jobsFrom isHeaderJob isBlockJob jobsFault askedOf zerosBehind
-    blockBytes blocksBytes layoutOf misleadingFrom writeFault packetOf
+    blockBytes blocksBytes layoutOf misleadingFrom writeFault packetOf aheadOf
 blocks-hold =
     record {
       loss = (refl, refl, refl, refl);
@@ -82,7 +82,7 @@ unfolding numbered answerOf filledOf pairUp headerOf placeOf walkFrom countOf lo
     wordsShown numbersShown pairsShown entriesShown wordsAsked numbersAsked pairsAsked entriesAsked fieldsAsked
     timeAsked wordsBy numbersBy fieldsBy legal stepOf listedAt takenBy afterSteps listedBy stepsLeft advanceFault
     advanceOf stretchFilled recordOf numbersRow pairLow jobsFrom isHeaderJob isBlockJob jobsFault askedOf zerosBehind
-    blockBytes blocksBytes layoutOf misleadingFrom writeFault packetOf
+    blockBytes blocksBytes layoutOf misleadingFrom writeFault packetOf aheadOf
 packets-hold =
     record {
       empty = (refl, refl);

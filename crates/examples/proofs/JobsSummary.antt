@@ -7,7 +7,7 @@ use Rattle.def_wire.specs.Block.{rleOf, rangedOf, kindOf, standardRule, crateRu
 use Rattle.def_wire.specs.Block.{has, clearRule}
 use Rattle.def_wire.specs.Summary.{summaryFrom, summaryOf}
 use Rattle.def_standard.specs.Chunks.{valuesIn}
-use Rattle.def_standard.specs.Range.{rangeOf, offsetOf, inside, numberOf}
+use Rattle.def_standard.specs.Range.{aheadOf, rangeOf, offsetOf, inside, numberOf}
 use Rattle.def_standard.specs.Standard.{valuesOf, numbersFrom, pairsFrom, echoesOf}
 use Rattle.def_crate.specs.Sequence.{passes}
 use Rattle.def_crate.specs.Crate.{onesIn, triesFrom, crateNumbersFrom, cratePairsFrom}
@@ -23,7 +23,7 @@ unfolding numbered pairUp headerOf placeOf walkFrom countOf locate rleOf rangedO
     fitness checkOf fieldsOf timeOf has clearRule summaryFrom summaryOf valuesIn rangeOf offsetOf inside numberOf
     valuesOf numbersFrom pairsFrom echoesOf passes onesIn triesFrom crateNumbersFrom cratePairsFrom numbersShown
     pairsShown entriesShown recordOf numbersRow pairLow jobsFrom isHeaderJob isBlockJob jobsFault askedOf zerosBehind
-    blockBytes blocksBytes layoutOf misleadingFrom writeFault packetOf
+    blockBytes blocksBytes layoutOf misleadingFrom writeFault packetOf aheadOf
 records-hold =
     record {
       bytes = (refl, refl);
@@ -41,7 +41,7 @@ unfolding numbered pairUp headerOf placeOf walkFrom countOf locate rleOf rangedO
     fitness checkOf fieldsOf timeOf has clearRule summaryFrom summaryOf valuesIn rangeOf offsetOf inside numberOf
     valuesOf numbersFrom pairsFrom echoesOf passes onesIn triesFrom crateNumbersFrom cratePairsFrom numbersShown
     pairsShown entriesShown recordOf numbersRow pairLow jobsFrom isHeaderJob isBlockJob jobsFault askedOf zerosBehind
-    blockBytes blocksBytes layoutOf misleadingFrom writeFault packetOf
+    blockBytes blocksBytes layoutOf misleadingFrom writeFault packetOf aheadOf
 written-hold =
     record {
       asked = refl;
@@ -56,7 +56,7 @@ unfolding numbered pairUp headerOf placeOf walkFrom countOf locate rleOf rangedO
     fitness checkOf fieldsOf timeOf has clearRule summaryFrom summaryOf valuesIn rangeOf offsetOf inside numberOf
     valuesOf numbersFrom pairsFrom echoesOf passes onesIn triesFrom crateNumbersFrom cratePairsFrom numbersShown
     pairsShown entriesShown recordOf numbersRow pairLow jobsFrom isHeaderJob isBlockJob jobsFault askedOf zerosBehind
-    blockBytes blocksBytes layoutOf misleadingFrom writeFault packetOf
+    blockBytes blocksBytes layoutOf misleadingFrom writeFault packetOf aheadOf
 shown-hold =
     record {
       standard = (refl, refl, refl, refl);
@@ -76,7 +76,7 @@ unfolding numbered pairUp headerOf placeOf walkFrom countOf locate rleOf rangedO
     fitness checkOf fieldsOf timeOf has clearRule summaryFrom summaryOf valuesIn rangeOf offsetOf inside numberOf
     valuesOf numbersFrom pairsFrom echoesOf passes onesIn triesFrom crateNumbersFrom cratePairsFrom numbersShown
     pairsShown entriesShown recordOf numbersRow pairLow jobsFrom isHeaderJob isBlockJob jobsFault askedOf zerosBehind
-    blockBytes blocksBytes layoutOf misleadingFrom writeFault packetOf
+    blockBytes blocksBytes layoutOf misleadingFrom writeFault packetOf aheadOf
 misled-hold =
     record {
       nothing-more = (refl, refl, refl, refl);

@@ -6,7 +6,7 @@ use Rattle.def_wire.specs.Packet.{headerOf, placeOf, walkFrom, countOf, locate}
 use Rattle.def_wire.specs.Block.{rleOf, rangedOf, kindOf, standardRule, crateRule, fitness, checkOf, fieldsOf}
 use Rattle.def_wire.specs.Block.{has, clearRule}
 use Rattle.def_standard.specs.Chunks.{valuesIn}
-use Rattle.def_standard.specs.Range.{rangeOf, offsetOf, inside, numberOf}
+use Rattle.def_standard.specs.Range.{aheadOf, rangeOf, offsetOf, inside, numberOf}
 use Rattle.def_standard.specs.Standard.{valuesOf, numbersFrom}
 use Rattle.def_crate.specs.Sequence.{passes, offsetSequence}
 use Rattle.def_crate.specs.Crate.{onesIn, triesFrom, crateNumbersFrom}
@@ -88,7 +88,7 @@ unfolding runOf bitsOf wordFor takenBy wordsFrom lossList heardOf pairUp headerO
     rangedOf kindOf standardRule crateRule fitness checkOf fieldsOf valuesIn rangeOf offsetOf inside numberOf valuesOf
     numbersFrom passes offsetSequence onesIn triesFrom crateNumbersFrom numbersShown numbersAsked recordOf numbersRow
     pairLow jobsFrom isHeaderJob isBlockJob jobsFault zerosBehind blockBytes blocksBytes layoutOf misleadingFrom
-    writeFault packetOf has clearRule
+    writeFault packetOf has clearRule aheadOf
 report-read-back-hold =
     record {
       word = refl;

@@ -3,7 +3,7 @@ use mathlib.Core.Path.{refl}
 use Rattle.def_wire.specs.Bytes.{pairUp}
 use Rattle.def_wire.specs.Block.{rleOf, rangedOf, kindOf, standardRule, has, clearRule}
 use Rattle.def_standard.specs.Chunks.{valuesIn}
-use Rattle.def_standard.specs.Range.{rangeOf, offsetOf, inside, numberOf}
+use Rattle.def_standard.specs.Range.{aheadOf, rangeOf, offsetOf, inside, numberOf}
 use Rattle.def_standard.specs.Standard.{valuesOf, numbersFrom, pairsFrom, echoesOf}
 use Rattle.def_portions.specs.Events.{headFault, blockFault, kindEvents, clearWords, kindThen, blocksFrom, courseOf}
 use Rattle.def_portions.specs.Calls.{pastFault, callOf}
@@ -13,7 +13,7 @@ use Rattle.examples.specs.PortionCalls.{Past, OneCall, Orders, Held}
 pub past-hold : Past
 unfolding pairUp rleOf rangedOf kindOf standardRule valuesIn rangeOf offsetOf inside numberOf valuesOf numbersFrom
     pairsFrom echoesOf headFault blockFault kindEvents blocksFrom courseOf pastFault callOf tagOf numberPart valuePart
-    laidBy
+    laidBy aheadOf
 past-hold =
     record {
       unknown = (refl, refl);
@@ -23,10 +23,11 @@ past-hold =
 pub one-call-hold : OneCall
 unfolding pairUp rleOf rangedOf kindOf standardRule valuesIn rangeOf offsetOf inside numberOf valuesOf numbersFrom
     pairsFrom echoesOf headFault blockFault kindEvents blocksFrom courseOf pastFault callOf tagOf numberPart valuePart
-    laidBy has clearRule clearWords kindThen
+    laidBy has clearRule clearWords kindThen aheadOf
 one-call-hold =
     record {
       adds = (refl, refl, refl);
+      off-the-grid = (refl, refl, refl);
       none = (refl, refl, refl);
       room = (refl, refl, refl);
       past = (refl, refl, refl);
@@ -39,7 +40,7 @@ one-call-hold =
 pub orders-hold : Orders
 unfolding pairUp rleOf rangedOf kindOf standardRule valuesIn rangeOf offsetOf inside numberOf valuesOf numbersFrom
     pairsFrom echoesOf headFault blockFault kindEvents blocksFrom courseOf pastFault callOf tagOf numberPart valuePart
-    laidBy has clearRule clearWords kindThen
+    laidBy has clearRule clearWords kindThen aheadOf
 orders-hold =
     record {
       stays = (refl, refl, refl, refl);
@@ -54,7 +55,7 @@ orders-hold =
 pub held-hold : Held
 unfolding pairUp rleOf rangedOf kindOf standardRule valuesIn rangeOf offsetOf inside numberOf valuesOf numbersFrom
     pairsFrom echoesOf headFault blockFault kindEvents blocksFrom courseOf pastFault callOf tagOf numberPart valuePart
-    laidBy
+    laidBy aheadOf
 held-hold =
     record {
       header = (refl, refl, refl);

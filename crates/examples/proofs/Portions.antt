@@ -3,14 +3,14 @@ use mathlib.Core.Path.{refl}
 use Rattle.def_wire.specs.Bytes.{pairUp}
 use Rattle.def_wire.specs.Block.{rleOf, rangedOf, kindOf, standardRule, has, clearRule}
 use Rattle.def_standard.specs.Chunks.{valuesIn}
-use Rattle.def_standard.specs.Range.{rangeOf, offsetOf, inside, numberOf}
+use Rattle.def_standard.specs.Range.{aheadOf, rangeOf, offsetOf, inside, numberOf}
 use Rattle.def_standard.specs.Standard.{valuesOf, numbersFrom, pairsFrom, echoesOf}
 use Rattle.def_portions.specs.Events.{headFault, blockFault, kindEvents, clearWords, kindThen, blocksFrom, courseOf}
 use Rattle.examples.specs.Portions.{HeadFaults, BlockFaults, BlockSoFar, SoFar, LostRuns, LostSoFar}
 
 pub head-faults-hold : HeadFaults
 unfolding pairUp rleOf rangedOf kindOf standardRule valuesIn rangeOf offsetOf inside numberOf valuesOf numbersFrom
-    pairsFrom echoesOf headFault blockFault kindEvents blocksFrom courseOf
+    pairsFrom echoesOf headFault blockFault kindEvents blocksFrom courseOf aheadOf
 head-faults-hold =
     record {
       least = (refl, refl);
@@ -22,7 +22,7 @@ head-faults-hold =
 
 pub block-faults-hold : BlockFaults
 unfolding pairUp rleOf rangedOf kindOf standardRule valuesIn rangeOf offsetOf inside numberOf valuesOf numbersFrom
-    pairsFrom echoesOf headFault blockFault kindEvents blocksFrom courseOf
+    pairsFrom echoesOf headFault blockFault kindEvents blocksFrom courseOf aheadOf
 block-faults-hold =
     record {
       too-long = (refl, refl, refl, refl);
@@ -35,12 +35,13 @@ block-faults-hold =
 
 pub block-so-far-hold : BlockSoFar
 unfolding pairUp rleOf rangedOf kindOf standardRule valuesIn rangeOf offsetOf inside numberOf valuesOf numbersFrom
-    pairsFrom echoesOf headFault blockFault kindEvents blocksFrom courseOf
+    pairsFrom echoesOf headFault blockFault kindEvents blocksFrom courseOf aheadOf
 block-so-far-hold =
     record {
       of-loss = (refl, refl, refl, refl, refl, refl, refl);
       of-duplicates = (refl, refl);
       of-times = (refl, refl, refl, refl, refl);
+      off-the-grid = (refl, refl, refl, refl, refl);
       of-clock = (refl, refl, refl);
       of-echoes = (refl, refl, refl, refl, refl);
       of-others = (refl, refl, refl);
@@ -48,7 +49,7 @@ block-so-far-hold =
 
 pub so-far-hold : SoFar
 unfolding pairUp rleOf rangedOf kindOf standardRule valuesIn rangeOf offsetOf inside numberOf valuesOf numbersFrom
-    pairsFrom echoesOf headFault blockFault kindEvents blocksFrom courseOf has clearRule clearWords kindThen
+    pairsFrom echoesOf headFault blockFault kindEvents blocksFrom courseOf has clearRule clearWords kindThen aheadOf
 so-far-hold =
     record {
       nothing = (refl, refl);
@@ -59,6 +60,7 @@ so-far-hold =
       last = (refl, refl, refl);
       smallest = refl;
       own = refl;
+      off-the-grid = (refl, refl);
       no-fuel = refl;
       seven = (refl, refl, refl);
       six = (refl, refl);
@@ -66,7 +68,7 @@ so-far-hold =
 
 pub lost-runs-hold : LostRuns
 unfolding pairUp rleOf rangedOf kindOf standardRule valuesIn rangeOf offsetOf inside numberOf valuesOf numbersFrom
-    pairsFrom echoesOf headFault blockFault kindEvents blocksFrom courseOf has clearRule clearWords kindThen
+    pairsFrom echoesOf headFault blockFault kindEvents blocksFrom courseOf has clearRule clearWords kindThen aheadOf
 lost-runs-hold =
     record {
       words = refl;
@@ -79,7 +81,7 @@ lost-runs-hold =
 
 pub lost-so-far-hold : LostSoFar
 unfolding pairUp rleOf rangedOf kindOf standardRule valuesIn rangeOf offsetOf inside numberOf valuesOf numbersFrom
-    pairsFrom echoesOf headFault blockFault kindEvents blocksFrom courseOf has clearRule clearWords kindThen
+    pairsFrom echoesOf headFault blockFault kindEvents blocksFrom courseOf has clearRule clearWords kindThen aheadOf
 lost-so-far-hold =
     record {
       second-byte = (refl, refl, refl, refl, refl, refl, refl);

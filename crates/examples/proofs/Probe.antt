@@ -7,7 +7,7 @@ use Rattle.def_wire.specs.Packet.{headerOf, placeOf, walkFrom, countOf, locate}
 use Rattle.def_wire.specs.Block.{rleOf, rangedOf, kindOf, standardRule, crateRule, fitness, checkOf, fieldsOf, timeOf}
 use Rattle.def_wire.specs.Block.{has, clearRule}
 use Rattle.def_standard.specs.Chunks.{valuesIn, chunkOf, wordOf}
-use Rattle.def_standard.specs.Range.{rangeOf, offsetOf, inside, numberOf}
+use Rattle.def_standard.specs.Range.{aheadOf, rangeOf, offsetOf, inside, numberOf}
 use Rattle.def_standard.specs.Standard.{valuesOf, numbersFrom, pairsFrom, echoesOf}
 use Rattle.def_crate.specs.Sequence.{passes, offsetSequence}
 use Rattle.def_crate.specs.Crate.{onesIn, triesFrom, crateNumbersFrom, cratePairsFrom}
@@ -46,7 +46,7 @@ unfolding numbered answerOf filledOf pairUp headerOf placeOf walkFrom countOf lo
     pairNumbers entryNumbers takenLine wordLine blocksLine viewLine packetLine readingText dumpText lineIn numbersText
     wordsText pairsText entriesText typedReply listReply wordsReply numbersReply shownText shownReply stretchOn
     stretchIn stretchText stretchReply writtenText writtenReply chunkAsked madeText madeReply parsedText parsedReply
-    marksText marksReply viewText viewReply answerTo
+    marksText marksReply viewText viewReply answerTo aheadOf
 parts-hold =
     record {
       of-a-reply = (refl, refl, refl, refl);
@@ -69,7 +69,7 @@ unfolding numbered answerOf filledOf pairUp headerOf placeOf walkFrom countOf lo
     pairNumbers entryNumbers takenLine wordLine blocksLine viewLine packetLine readingText dumpText lineIn numbersText
     wordsText pairsText entriesText typedReply listReply wordsReply numbersReply shownText shownReply stretchOn
     stretchIn stretchText stretchReply writtenText writtenReply chunkAsked madeText madeReply parsedText parsedReply
-    marksText marksReply viewText viewReply answerTo
+    marksText marksReply viewText viewReply answerTo aheadOf
 of-dump-hold =
     record {
       a-dump = refl;
@@ -87,7 +87,7 @@ unfolding numbered answerOf filledOf pairUp headerOf placeOf walkFrom countOf lo
     pairNumbers entryNumbers takenLine wordLine blocksLine viewLine packetLine readingText dumpText lineIn numbersText
     wordsText pairsText entriesText typedReply listReply wordsReply numbersReply shownText shownReply stretchOn
     stretchIn stretchText stretchReply writtenText writtenReply chunkAsked madeText madeReply parsedText parsedReply
-    marksText marksReply viewText viewReply answerTo has clearRule
+    marksText marksReply viewText viewReply answerTo has clearRule aheadOf
 of-lists-hold =
     record {
       numbers = (refl, refl, refl, refl);
@@ -98,6 +98,7 @@ of-lists-hold =
       types-not-served = (refl, refl, refl, refl, refl, refl);
       words = (refl, refl, refl, refl);
       lost-run = (refl, refl, refl, refl, refl, refl, refl);
+      off-the-grid = (refl, refl, refl, refl, refl, refl);
       of-any-type = (refl, refl);
       cut-lists = (refl, refl, refl);
       cut-words = (refl, refl, refl);
@@ -116,7 +117,7 @@ unfolding numbered answerOf filledOf pairUp headerOf placeOf walkFrom countOf lo
     pairNumbers entryNumbers takenLine wordLine blocksLine viewLine packetLine readingText dumpText lineIn numbersText
     wordsText pairsText entriesText typedReply listReply wordsReply numbersReply shownText shownReply stretchOn
     stretchIn stretchText stretchReply writtenText writtenReply chunkAsked madeText madeReply parsedText parsedReply
-    marksText marksReply viewText viewReply answerTo has clearRule
+    marksText marksReply viewText viewReply answerTo has clearRule aheadOf
 of-blocks-hold =
     record {
       fields = (refl, refl, refl, refl, refl);
@@ -141,11 +142,12 @@ unfolding numbered answerOf filledOf pairUp headerOf placeOf walkFrom countOf lo
     pairNumbers entryNumbers takenLine wordLine blocksLine viewLine packetLine readingText dumpText lineIn numbersText
     wordsText pairsText entriesText typedReply listReply wordsReply numbersReply shownText shownReply stretchOn
     stretchIn stretchText stretchReply writtenText writtenReply chunkAsked madeText madeReply parsedText parsedReply
-    marksText marksReply viewText viewReply answerTo has clearRule
+    marksText marksReply viewText viewReply answerTo has clearRule aheadOf
 of-stretches-hold =
     record {
       a-stretch = (refl, refl);
       steps-and-numbers = refl;
+      off-the-grid = (refl, refl, refl);
       refused-stretches = (refl, refl, refl, refl, refl);
       lost-run = (refl, refl, refl);
       cut-stretch = (refl, refl);
@@ -163,11 +165,12 @@ unfolding numbered answerOf filledOf pairUp headerOf placeOf walkFrom countOf lo
     pairNumbers entryNumbers takenLine wordLine blocksLine viewLine packetLine readingText dumpText lineIn numbersText
     wordsText pairsText entriesText typedReply listReply wordsReply numbersReply shownText shownReply stretchOn
     stretchIn stretchText stretchReply writtenText writtenReply chunkAsked madeText madeReply parsedText parsedReply
-    marksText marksReply viewText viewReply answerTo has clearRule
+    marksText marksReply viewText viewReply answerTo has clearRule aheadOf
 of-writing-hold =
     record {
       plain = (refl, refl);
       careful = (refl, refl);
+      off-the-grid = (refl, refl, refl);
       lost-run = (refl, refl, refl);
       a-word = (refl, refl, refl, refl);
       no-word = (refl, refl, refl, refl);
@@ -190,7 +193,7 @@ unfolding numbered answerOf filledOf pairUp headerOf placeOf walkFrom countOf lo
     pairNumbers entryNumbers takenLine wordLine blocksLine viewLine packetLine readingText dumpText lineIn numbersText
     wordsText pairsText entriesText typedReply listReply wordsReply numbersReply shownText shownReply stretchOn
     stretchIn stretchText stretchReply writtenText writtenReply chunkAsked madeText madeReply parsedText parsedReply
-    marksText marksReply viewText viewReply answerTo
+    marksText marksReply viewText viewReply answerTo aheadOf
 not-served-hold =
     record {
       others = (refl, refl, refl);

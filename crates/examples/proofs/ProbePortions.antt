@@ -4,7 +4,7 @@ use Rattle.def_refusals.specs.Numbers.{numbered}
 use Rattle.def_wire.specs.Bytes.{pairUp}
 use Rattle.def_wire.specs.Block.{rleOf, rangedOf, kindOf, standardRule, has, clearRule}
 use Rattle.def_standard.specs.Chunks.{valuesIn}
-use Rattle.def_standard.specs.Range.{rangeOf, offsetOf, inside, numberOf}
+use Rattle.def_standard.specs.Range.{aheadOf, rangeOf, offsetOf, inside, numberOf}
 use Rattle.def_standard.specs.Standard.{valuesOf, numbersFrom, pairsFrom, echoesOf}
 use Rattle.def_portions.specs.Events.{headFault, blockFault, kindEvents, clearWords, kindThen, blocksFrom, courseOf}
 use Rattle.def_portions.specs.Calls.{pastFault, callOf}
@@ -18,7 +18,7 @@ pub of-portions-hold : OfPortions
 unfolding numbered pairUp rleOf rangedOf kindOf standardRule valuesIn rangeOf offsetOf inside numberOf valuesOf
     numbersFrom pairsFrom echoesOf headFault blockFault kindEvents blocksFrom courseOf pastFault callOf decimalWithin
     refusalLine fieldsLine eventLine eventLines givenLine sizesAt callsText portionsText portionsReply answerTo has
-    clearRule clearWords kindThen
+    clearRule clearWords kindThen aheadOf
 of-portions-hold =
     record {
       whole = (refl, refl);
@@ -28,6 +28,7 @@ of-portions-hold =
       again = (refl, refl);
       stays = (refl, refl);
       lost-run = (refl, refl, refl, refl);
+      off-the-grid = refl;
       room = refl;
       not-whole = (refl, refl, refl);
       line = refl;

@@ -7,7 +7,7 @@ use Rattle.def_wire.specs.Packet.{headerOf, placeOf, walkFrom, countOf, locate}
 use Rattle.def_wire.specs.Block.{rleOf, rangedOf, kindOf, standardRule, crateRule, fitness, checkOf, fieldsOf, timeOf}
 use Rattle.def_wire.specs.Block.{has, clearRule}
 use Rattle.def_standard.specs.Chunks.{valuesIn, chunkOf, wordOf}
-use Rattle.def_standard.specs.Range.{rangeOf, offsetOf, inside, numberOf}
+use Rattle.def_standard.specs.Range.{aheadOf, rangeOf, offsetOf, inside, numberOf}
 use Rattle.def_standard.specs.Standard.{valuesOf, numbersFrom, pairsFrom, echoesOf}
 use Rattle.def_crate.specs.Sequence.{passes, offsetSequence}
 use Rattle.def_crate.specs.Crate.{onesIn, triesFrom, crateNumbersFrom, cratePairsFrom}
@@ -21,7 +21,7 @@ unfolding numbered answerOf filledOf pairUp headerOf placeOf walkFrom countOf lo
     standardRule crateRule fitness checkOf fieldsOf timeOf valuesIn chunkOf wordOf rangeOf offsetOf inside numberOf
     valuesOf numbersFrom pairsFrom echoesOf passes offsetSequence onesIn triesFrom crateNumbersFrom cratePairsFrom
     wordsShown numbersShown pairsShown entriesShown wordsAsked numbersAsked pairsAsked entriesAsked fieldsAsked
-    timeAsked wordsBy numbersBy fieldsBy has clearRule
+    timeAsked wordsBy numbersBy fieldsBy has clearRule aheadOf
 of-a-view-hold =
     record {
       words = (refl, refl, refl, refl);
@@ -36,6 +36,8 @@ of-a-view-hold =
       pairs = (refl, refl);
       entries = (refl, refl);
       readings-differ = (refl, refl);
+      off-the-grid = (refl, refl, refl, refl, refl, refl);
+      none-on-the-grid = (refl, refl, refl, refl);
     }
 
 pub of-a-packet-hold : OfAPacket
@@ -43,7 +45,7 @@ unfolding numbered answerOf filledOf pairUp headerOf placeOf walkFrom countOf lo
     standardRule crateRule fitness checkOf fieldsOf timeOf valuesIn chunkOf wordOf rangeOf offsetOf inside numberOf
     valuesOf numbersFrom pairsFrom echoesOf passes offsetSequence onesIn triesFrom crateNumbersFrom cratePairsFrom
     wordsShown numbersShown pairsShown entriesShown wordsAsked numbersAsked pairsAsked entriesAsked fieldsAsked
-    timeAsked wordsBy numbersBy fieldsBy has clearRule
+    timeAsked wordsBy numbersBy fieldsBy has clearRule aheadOf
 of-a-packet-hold =
     record {
       words = (refl, refl);
@@ -65,7 +67,7 @@ unfolding numbered answerOf filledOf pairUp headerOf placeOf walkFrom countOf lo
     standardRule crateRule fitness checkOf fieldsOf timeOf valuesIn chunkOf wordOf rangeOf offsetOf inside numberOf
     valuesOf numbersFrom pairsFrom echoesOf passes offsetSequence onesIn triesFrom crateNumbersFrom cratePairsFrom
     wordsShown numbersShown pairsShown entriesShown wordsAsked numbersAsked pairsAsked entriesAsked fieldsAsked
-    timeAsked wordsBy numbersBy fieldsBy has clearRule
+    timeAsked wordsBy numbersBy fieldsBy has clearRule aheadOf
 lost-run-hold =
     record {
       refusal = (refl, refl, refl, refl);
@@ -81,7 +83,7 @@ unfolding numbered answerOf filledOf pairUp headerOf placeOf walkFrom countOf lo
     standardRule crateRule fitness checkOf fieldsOf timeOf valuesIn chunkOf wordOf rangeOf offsetOf inside numberOf
     valuesOf numbersFrom pairsFrom echoesOf passes offsetSequence onesIn triesFrom crateNumbersFrom cratePairsFrom
     wordsShown numbersShown pairsShown entriesShown wordsAsked numbersAsked pairsAsked entriesAsked fieldsAsked
-    timeAsked wordsBy numbersBy fieldsBy has clearRule
+    timeAsked wordsBy numbersBy fieldsBy has clearRule aheadOf
 by-number-hold =
     record {
       served = (refl, refl, refl, refl, refl);
@@ -97,7 +99,7 @@ unfolding numbered answerOf filledOf pairUp headerOf placeOf walkFrom countOf lo
     standardRule crateRule fitness checkOf fieldsOf timeOf valuesIn chunkOf wordOf rangeOf offsetOf inside numberOf
     valuesOf numbersFrom pairsFrom echoesOf passes offsetSequence onesIn triesFrom crateNumbersFrom cratePairsFrom
     wordsShown numbersShown pairsShown entriesShown wordsAsked numbersAsked pairsAsked entriesAsked fieldsAsked
-    timeAsked wordsBy numbersBy fieldsBy
+    timeAsked wordsBy numbersBy fieldsBy aheadOf
 side-by-side-hold =
     record {
       pairs = (

@@ -6,14 +6,14 @@ use Rattle.def_wire.specs.Bytes.{pairUp}
 use Rattle.def_wire.specs.Packet.{headerOf, placeOf, walkFrom, countOf, locate}
 use Rattle.def_wire.specs.Block.{rleOf, rangedOf, kindOf, standardRule, crateRule, fitness, checkOf, fieldsOf, timeOf}
 use Rattle.def_standard.specs.Chunks.{valuesIn, chunkOf, wordOf}
-use Rattle.def_standard.specs.Range.{rangeOf, offsetOf, inside, numberOf}
+use Rattle.def_standard.specs.Range.{aheadOf, rangeOf, offsetOf, inside, numberOf}
 use Rattle.def_standard.specs.Standard.{valuesOf, numbersFrom, pairsFrom, echoesOf}
 use Rattle.examples.specs.Standard.{ChunkWords, Ranges, Lists, OfABlock}
 
 pub chunk-words-hold : ChunkWords
 unfolding numbered answerOf filledOf pairUp headerOf placeOf walkFrom countOf locate rleOf rangedOf kindOf
     standardRule crateRule fitness checkOf fieldsOf timeOf valuesIn chunkOf wordOf rangeOf offsetOf inside numberOf
-    valuesOf numbersFrom pairsFrom echoesOf
+    valuesOf numbersFrom pairsFrom echoesOf aheadOf
 chunk-words-hold =
     record {
       covers = refl;
@@ -39,21 +39,28 @@ chunk-words-hold =
 pub ranges-hold : Ranges
 unfolding numbered answerOf filledOf pairUp headerOf placeOf walkFrom countOf locate rleOf rangedOf kindOf
     standardRule crateRule fitness checkOf fieldsOf timeOf valuesIn chunkOf wordOf rangeOf offsetOf inside numberOf
-    valuesOf numbersFrom pairsFrom echoesOf
+    valuesOf numbersFrom pairsFrom echoesOf aheadOf
 ranges-hold =
     record {
       size = (refl, refl, refl, refl, refl, refl, refl);
-      of-fields = refl;
+      ahead = (refl, refl, refl);
+      ahead-far = (refl, refl, refl);
+      of-fields = (refl, refl, refl, refl, refl, refl, refl);
+      end-first = refl;
+      end-first-wrapped = refl;
+      begin-is-end = (refl, refl, refl, refl);
       offset = (refl, refl, refl, refl);
       is-inside = (refl, refl, refl, refl, refl);
       number = (refl, refl, refl, refl);
+      on-the-grid = (refl, refl, refl, refl, refl, refl);
+      round = (refl, refl, refl, refl);
       all-numbers = refl;
     }
 
 pub lists-hold : Lists
 unfolding numbered answerOf filledOf pairUp headerOf placeOf walkFrom countOf locate rleOf rangedOf kindOf
     standardRule crateRule fitness checkOf fieldsOf timeOf valuesIn chunkOf wordOf rangeOf offsetOf inside numberOf
-    valuesOf numbersFrom pairsFrom echoesOf
+    valuesOf numbersFrom pairsFrom echoesOf aheadOf
 lists-hold =
     record {
       by-positions = refl;
@@ -72,12 +79,14 @@ lists-hold =
 pub of-a-block-hold : OfABlock
 unfolding numbered answerOf filledOf pairUp headerOf placeOf walkFrom countOf locate rleOf rangedOf kindOf
     standardRule crateRule fitness checkOf fieldsOf timeOf valuesIn chunkOf wordOf rangeOf offsetOf inside numberOf
-    valuesOf numbersFrom pairsFrom echoesOf
+    valuesOf numbersFrom pairsFrom echoesOf aheadOf
 of-a-block-hold =
     record {
       chunk-words = (refl, refl);
       numbers = refl;
       none = refl;
       times = refl;
+      off-the-grid = (refl, refl, refl, refl, refl, refl);
+      times-off-the-grid = (refl, refl, refl, refl);
       entries = (refl, refl);
     }

@@ -6,7 +6,7 @@ use Rattle.def_wire.specs.Packet.{headerOf, placeOf, walkFrom, countOf, locate}
 use Rattle.def_wire.specs.Block.{rleOf, rangedOf, kindOf, standardRule, crateRule, fitness, checkOf, fieldsOf, timeOf}
 use Rattle.def_wire.specs.Block.{has, clearRule}
 use Rattle.def_standard.specs.Chunks.{valuesIn}
-use Rattle.def_standard.specs.Range.{rangeOf, offsetOf, inside, numberOf}
+use Rattle.def_standard.specs.Range.{aheadOf, rangeOf, offsetOf, inside, numberOf}
 use Rattle.def_standard.specs.Standard.{valuesOf, numbersFrom, pairsFrom, echoesOf}
 use Rattle.def_crate.specs.Sequence.{passes}
 use Rattle.def_crate.specs.Crate.{onesIn, triesFrom, crateNumbersFrom, cratePairsFrom}
@@ -23,7 +23,7 @@ unfolding numbered rleOf rangedOf kindOf pairUp headerOf placeOf walkFrom countO
     fitness checkOf fieldsOf timeOf valuesIn rangeOf offsetOf inside numberOf valuesOf numbersFrom pairsFrom
     echoesOf passes onesIn triesFrom crateNumbersFrom cratePairsFrom numbersShown pairsShown entriesShown
     numbersAsked pairsAsked entriesAsked fieldsAsked recordOf numbersRow pairLow jobsFrom isHeaderJob isBlockJob
-    jobsFault zerosBehind blockBytes blocksBytes layoutOf misleadingFrom writeFault packetOf has clearRule
+    jobsFault zerosBehind blockBytes blocksBytes layoutOf misleadingFrom writeFault packetOf has clearRule aheadOf
 twelve =
     record {
       one = (refl, refl, refl, refl);

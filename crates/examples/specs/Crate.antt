@@ -88,3 +88,10 @@ pub record OfWhatIsLeft : Type 0 where
       (cratePairs (rows (0x03000003 ∷ 7 ∷ 0x00050009 ∷ 100 ∷ 200 ∷ [])) ≡ pair 5 100 ∷ pair 6 200 ∷ [])
       × (cratePairs (rows (0x03000000 ∷ 7 ∷ 0x00050009 ∷ 100 ∷ [])) ≡ pair 5 100 ∷ [])
       × (cratePairs (rows (0x03000000 ∷ 7 ∷ 0x00050009 ∷ [])) ≡ []) × (cratePairs (rows (0x03000000 ∷ [])) ≡ [])
+  -- it counts from begin, on the grid or off it: from 5 to 20 and to 8 by fours
+  pub off-the-grid :
+      (crateNumbers (rows (0x01020003 ∷ 7 ∷ 0x00050014 ∷ 0x40040000 ∷ [])) ≡ 5 ∷ 9 ∷ 13 ∷ 17 ∷ [])
+      × (crateNumbers (rows (0x01020003 ∷ 7 ∷ 0x00050008 ∷ 0x40040000 ∷ [])) ≡ 5 ∷ [])
+      × (crateNumbers (rows (0x01020003 ∷ 7 ∷ 0xfffd000a ∷ 0x40040000 ∷ [])) ≡ 65533 ∷ 1 ∷ 5 ∷ 9 ∷ [])
+      × (cratePairs (rows (0x03020004 ∷ 7 ∷ 0x00050014 ∷ 100 ∷ 200 ∷ [])) ≡ pair 5 100 ∷ pair 9 200 ∷ [])
+      × (cratePairs (rows (0x03020003 ∷ 7 ∷ 0x00050008 ∷ 100 ∷ [])) ≡ pair 5 100 ∷ [])

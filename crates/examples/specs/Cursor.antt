@@ -6,11 +6,13 @@ use mathlib.Core.List.{List, [], _∷_, map}
 use Rattle.def_refusals.specs.declared.Refusal.the-variants.{NoPlace, NoRoom}
 use Rattle.def_refusals.specs.declared.Checked.the-variants.{Fine, Unfit}
 use Rattle.def_standard.specs.declared.Range.{Range}
+use Rattle.def_standard.specs.Range.{rangeOf}
 use Rattle.def_cursor.specs.declared.Cursor.{Cursor}
 use Rattle.def_cursor.specs.declared.Stretch.{Stretch}
 use Rattle.def_cursor.specs.declared.Advanced.the-variants.{Moved, Stuck}
 use Rattle.def_cursor.specs.Cursor.{cursor, start, stepsIn, wordAt, legal, nextPosition, stepOf, listedAt, takenBy}
 use Rattle.def_cursor.specs.Cursor.{afterSteps, listedBy, stepsLeft, cursorFault, stretchOf, advanceTo, leftTo}
+use Rattle.examples.specs.Rows.{fields}
 use Rattle.examples.specs.Standard.{range}
 
 -- two ones; nothing; a run of ones of length 0; two zeros; a vector, ones at places 0 and 14. 21 steps, 19 positions
@@ -74,6 +76,10 @@ pub record OneStep : Type 0 where
       (listedAt (range 10 4 0) 0 (place 0 0 3) ≡ []) × (listedAt (range 10 4 0) 16384 (place 0 0 3) ≡ [])
   -- where the position has stopped, nothing is inside
   pub listed-stopped : listedAt (range 10 65536 0) 16386 (place 0 0 65536) ≡ []
+  -- of fields with begin = end off the grid, by fours: the last position inside, and one past it
+  pub listed-round :
+      (listedAt (rangeOf (fields 7 5 5 2)) 16386 (place 0 0 16383) ≡ 4 ∷ [])
+      × (listedAt (rangeOf (fields 7 5 5 2)) 16386 (place 0 0 16384) ≡ [])
 
 pub record Steps : Type 0 where
   -- the lesser of budget and steps left: 21 in all, 16 from the second zero on, none at the end
@@ -105,6 +111,12 @@ pub record Steps : Type 0 where
   pub listed-from-here :
       (listedBy (range 10 30 0) five-words 9 (place 4 14 2) ≡ 12 ∷ [])
       × (listedBy (range 10 30 0) five-words 9 (place 5 0 0) ≡ [])
+  -- of fields from 5 by fours: from the first number on the grid on; position 1 outside and inside; none at all
+  pub listed-off-the-grid :
+      (listedBy (rangeOf (fields 7 5 200 2)) five-words 99 start ≡ 8 ∷ 12 ∷ 24 ∷ 80 ∷ [])
+      × (listedBy (rangeOf (fields 7 5 12 2)) five-words 99 start ≡ 8 ∷ [])
+      × (listedBy (rangeOf (fields 7 5 13 2)) five-words 99 start ≡ 8 ∷ 12 ∷ [])
+      × (listedBy (rangeOf (fields 7 5 8 2)) five-words 99 start ≡ [])
   -- how many steps are left, from a place of the first word on
   pub left :
       (stepsLeft five-words 0 ≡ 21) × (stepsLeft five-words 1 ≡ 20) × (stepsLeft (0 ∷ 16384 ∷ []) 0 ≡ 2)
@@ -125,6 +137,8 @@ pub record Faults : Type 0 where
   pub a-stretch :
       (stretchOf (range 10 30 0) five-words start 7 ≡ stretch 4 1 5 7 3)
       × (stretchOf (range 10 5 0) five-words start 99 ≡ stretch 5 0 19 21 3)
+      × (stretchOf (rangeOf (fields 7 5 20 2)) five-words start 7 ≡ stretch 4 1 5 7 2)
+      × (stretchOf (rangeOf (fields 7 5 8 2)) five-words start 7 ≡ stretch 4 1 5 7 0)
   pub answer :
       (advanceTo Fine (stretch 1 2 3 4 5) ≡ Moved (stretch 1 2 3 4 5))
       × (advanceTo (Unfit NoPlace) (stretch 1 2 3 4 5) ≡ Stuck NoPlace)

@@ -29,6 +29,17 @@ short-loss = rows (0x01000001 ∷ 7 ∷ [])
 abbrev pub lost-loss : List ℕ
 lost-loss = rows (0x01000004 ∷ 7 ∷ 0x000a000f ∷ 0x40020000 ∷ 0x00024000 ∷ [])
 
+-- from 5 to 20 by fours, words 16386, 0, 16386, 0: six steps and four ones, and 8, 12 and 16 are listed
+abbrev pub off-loss : List ℕ
+off-loss = rows (0x01020004 ∷ 7 ∷ 0x00050014 ∷ 0x40020000 ∷ 0x40020000 ∷ [])
+
+-- from 5 to 8 by fours: two steps, and nothing is listed; to 9, and 8 is
+abbrev pub empty-duplicate : List ℕ
+empty-duplicate = rows (0x02020003 ∷ 7 ∷ 0x00050008 ∷ 0x40010000 ∷ [])
+
+abbrev pub one-duplicate : List ℕ
+one-duplicate = rows (0x02020003 ∷ 7 ∷ 0x00050009 ∷ 0x40010000 ∷ [])
+
 abbrev pub old : List ℕ
 old = 1 ∷ 2 ∷ 3 ∷ 4 ∷ 5 ∷ 6 ∷ 7 ∷ []
 
@@ -73,11 +84,27 @@ pub record OfAView : Type 0 where
       × (stretchFilled Duplicate a-duplicate start 4 old ≡ 10 ∷ 12 ∷ 14 ∷ 4 ∷ 5 ∷ 6 ∷ 7 ∷ [])
       × (stretchFilled Loss a-loss start 7 old ≡ 10 ∷ 11 ∷ 14 ∷ 4 ∷ 5 ∷ 6 ∷ 7 ∷ [])
       × (stretchFilled Loss a-loss start 8 old ≡ old) × (stretchFilled Loss a-loss (place 0 2 0) 1 old ≡ old)
+  -- begin off the grid: the first number on it and the next, the last inside, and the position past it
+  pub off-the-grid :
+      (advanceOf Loss off-loss start 2 2 ≡ Moved (stretch 1 0 2 2 2))
+      × (advanceOf Loss off-loss start 9 9 ≡ Moved (stretch 4 0 4 6 3))
+      × (advanceOf Loss off-loss (place 2 0 2) 1 1 ≡ Moved (stretch 2 1 3 1 1))
+      × (advanceOf Loss off-loss (place 2 1 3) 1 1 ≡ Moved (stretch 3 0 4 1 0))
+      × (stretchFilled Loss off-loss start 2 old ≡ 8 ∷ 12 ∷ 3 ∷ 4 ∷ 5 ∷ 6 ∷ 7 ∷ [])
+      × (stretchFilled Loss off-loss start 7 old ≡ 8 ∷ 12 ∷ 16 ∷ 4 ∷ 5 ∷ 6 ∷ 7 ∷ [])
+      × (stretchFilled Loss off-loss (place 2 0 2) 2 old ≡ 16 ∷ 2 ∷ 3 ∷ 4 ∷ 5 ∷ 6 ∷ 7 ∷ [])
+  -- end comes before it, and just behind it: steps are taken as ever
+  pub none-on-the-grid :
+      (advanceOf Duplicate empty-duplicate start 2 2 ≡ Moved (stretch 2 0 1 2 0))
+      × (stretchFilled Duplicate empty-duplicate start 2 old ≡ old)
+      × (advanceOf Duplicate one-duplicate start 2 2 ≡ Moved (stretch 2 0 1 2 1))
+      × (stretchFilled Duplicate one-duplicate start 2 old ≡ 8 ∷ 2 ∷ 3 ∷ 4 ∷ 5 ∷ 6 ∷ 7 ∷ [])
   -- the contract: the lent list's length is the room
   pub contract :
       Stretched Loss a-loss (place 0 1 1) 2 (8 ∷ 9 ∷ []) (Moved (stretch 2 0 2 2 1)) (11 ∷ 9 ∷ [])
       × Stretched Loss a-loss start 3 (8 ∷ 9 ∷ []) (Stuck (NoRoom 3 2)) (8 ∷ 9 ∷ [])
       × Stretched Duplicate a-loss start 1 (8 ∷ 9 ∷ []) (Stuck (OtherType 1)) (8 ∷ 9 ∷ [])
+      × Stretched Loss off-loss (place 0 1 1) 2 (8 ∷ 9 ∷ []) (Moved (stretch 2 0 2 2 1)) (12 ∷ 9 ∷ [])
   -- and no other answer, nor other contents, satisfies it
   pub no-other :
       (r : Advanced) (out : List ℕ) → Stretched Loss a-loss (place 0 1 1) 2 (8 ∷ 9 ∷ []) r out

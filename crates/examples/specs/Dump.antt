@@ -67,6 +67,10 @@ pub record Blocks : Type 0 where
   pub times :
       blockText Standard 0 (rows (0x03020004 ∷ 7 ∷ 0x00050014 ∷ 100 ∷ 200 ∷ []))
       ≡ textOf
+      ("block 0 type 3 length 20" ∷ "ssrc 7 begin 5 end 20 thinning 2" ∷ "pairs 8 100 12 200" ∷ [])
+  pub times-by-the-crate :
+      blockText Crate 0 (rows (0x03020004 ∷ 7 ∷ 0x00050014 ∷ 100 ∷ 200 ∷ []))
+      ≡ textOf
       ("block 0 type 3 length 20" ∷ "ssrc 7 begin 5 end 20 thinning 2" ∷ "pairs 5 100 9 200" ∷ [])
   pub clock :
       blockText Standard 5 (rows (0x04000002 ∷ 1 ∷ 2 ∷ []))
@@ -132,6 +136,32 @@ pub record Dumps : Type 0 where
       ∷ "ssrc 7 begin 10 end 14 thinning 0"
       ∷ "numbers 10 11"
       ∷ "block 1 type 99 length 4"
+      ∷ [])
+  -- begin off the grid: by the standard from the first number on it, by the crate from begin
+  pub off-the-grid :
+      dumpText (packet (0x01020003 ∷ 7 ∷ 0x00050014 ∷ 0x40040000 ∷ []))
+      ≡ textOf
+      ("reading standard"
+      ∷ "block 0 type 1 length 16"
+      ∷ "ssrc 7 begin 5 end 20 thinning 2"
+      ∷ "numbers 8 12 16"
+      ∷ "reading crate"
+      ∷ "block 0 type 1 length 16"
+      ∷ "ssrc 7 begin 5 end 20 thinning 2"
+      ∷ "numbers 5 9 13 17"
+      ∷ [])
+  -- and where end comes before it
+  pub none-on-the-grid :
+      dumpText (packet (0x01020003 ∷ 7 ∷ 0x00050008 ∷ 0x40010000 ∷ []))
+      ≡ textOf
+      ("reading standard"
+      ∷ "block 0 type 1 length 16"
+      ∷ "ssrc 7 begin 5 end 8 thinning 2"
+      ∷ "numbers"
+      ∷ "reading crate"
+      ∷ "block 0 type 1 length 16"
+      ∷ "ssrc 7 begin 5 end 8 thinning 2"
+      ∷ "numbers 5"
       ∷ [])
   -- from block 1 on
   pub from-the-second :

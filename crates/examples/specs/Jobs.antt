@@ -190,6 +190,19 @@ pub record Asked : Type 0 where
   pub receipt-times :
       askedOf (of-kind 3 (body 5 7 0 (le4s (100 ∷ 200 ∷ 300 ∷ []))))
       ≡ received (fields 7 5 7 0) (pair 5 100 ∷ pair 6 200 ∷ [])
+  -- begin off the grid: from the first number on it, of each kind; begin itself as it was given
+  pub off-the-grid :
+      (askedOf (of-kind 1 (body 5 20 2 (le2s (16388 ∷ []))))
+      ≡ reported Loss (fields 7 5 20 2) (8 ∷ 12 ∷ 16 ∷ []))
+      × (askedOf (of-kind 2 (body 65533 10 2 (le2s (16385 ∷ 16385 ∷ []))))
+      ≡ reported Duplicate (fields 7 65533 10 2) (0 ∷ 4 ∷ []))
+      × (askedOf (of-kind 3 (body 5 20 2 (le4s (100 ∷ 200 ∷ 300 ∷ 400 ∷ []))))
+      ≡ received (fields 7 5 20 2) (pair 8 100 ∷ pair 12 200 ∷ pair 16 300 ∷ []))
+  -- nothing where end comes before it
+  pub none-on-the-grid :
+      (askedOf (of-kind 1 (body 5 8 2 (le2s (16388 ∷ [])))) ≡ reported Loss (fields 7 5 8 2) [])
+      × (askedOf (of-kind 3 (body 5 8 2 (le4s (100 ∷ [])))) ≡ received (fields 7 5 8 2) [])
+      × (askedOf (of-kind 3 (body 5 9 2 (le4s (100 ∷ [])))) ≡ received (fields 7 5 9 2) (pair 8 100 ∷ []))
   -- eight bytes are one number
   pub time : askedOf (of-kind 4 (8 ∷ 7 ∷ 6 ∷ 5 ∷ 4 ∷ 3 ∷ 2 ∷ 1 ∷ [])) ≡ clocked (record { 0 = 0x0102030405060708 })
   pub entries : askedOf (of-kind 5 (le4s (1 ∷ 2 ∷ 3 ∷ 4 ∷ 5 ∷ 6 ∷ []))) ≡ echoed (echo 1 2 3 ∷ echo 4 5 6 ∷ [])

@@ -26,8 +26,8 @@ an-echo = echoes (10 ∷ 11 ∷ 12 ∷ [])
 abbrev pub four-bytes : List ℕ
 four-bytes = echoes []
 
--- 15, of type 3: K own times, M times up to the packet's end, P positions inside. It misleads unless M = K ≤ P, or
--- K ≥ P and position P fails the crate's test
+-- 15, of type 3: K own times, M times up to the packet's end, P positions inside. With a begin on the grid it misleads
+-- unless M = K ≤ P, or K ≥ P and position P fails the crate's test; with one off it, wherever M > 0
 pub record FifteenOfTimes : Type 0 where
   -- M = K ≤ P: nothing behind it, fewer times than positions and just as many
   pub all-its-own :
@@ -47,6 +47,19 @@ pub record FifteenOfTimes : Type 0 where
   pub position-p-passes :
       (careful (receipts 0 0 15 (1 ∷ 2 ∷ 3 ∷ [])) ≡ refused (Misleads 0))
       × (careful (receipts 0 0 15 (1 ∷ 2 ∷ []) ++ four-bytes) ≡ refused (Misleads 0))
+  -- begin off the grid: wherever M > 0, its own time or what is taken for one, inside or not
+  pub off-the-grid :
+      (careful (receipts 5 20 2 (100 ∷ [])) ≡ refused (Misleads 0))
+      × (careful (receipts 5 8 2 (100 ∷ [])) ≡ refused (Misleads 0))
+      × (careful (receipts 5 5 2 (100 ∷ [])) ≡ refused (Misleads 0))
+      × (careful (receipts 5 20 2 [] ++ four-bytes) ≡ refused (Misleads 0))
+  -- none, and nothing behind it; begin moved up to the grid; plainly
+  pub none-misled :
+      (careful (receipts 5 20 2 []) ≡ shown (packet (0x03020002 ∷ 7 ∷ 0x00050014 ∷ [])))
+      × (careful (four-bytes ++ receipts 5 20 2 []) ≡ shown (packet (0x05000000 ∷ 0x03020002 ∷ 7 ∷ 0x00050014 ∷ [])))
+      × (careful (receipts 8 20 2 (100 ∷ [])) ≡ shown (packet (0x03020003 ∷ 7 ∷ 0x00080014 ∷ 100 ∷ [])))
+      × (packetOf Plain (header 0 ++ receipts 5 20 2 (100 ∷ []))
+      ≡ shown (packet (0x03020003 ∷ 7 ∷ 0x00050014 ∷ 100 ∷ [])))
 
 -- 15, of type 5: 1, 5, 9, .. entries and 12 bytes or more behind; never of type 4
 pub record FifteenOfEntries : Type 0 where
@@ -74,7 +87,9 @@ times (suc n) l = l ++ times n l
 
 pub record Order : Type 0 where
   -- the index of the first misleading block of two, counted without the header record
-  pub first-misleading : careful (a-clock ++ (an-echo ++ (an-echo ++ a-clock))) ≡ refused (Misleads 1)
+  pub first-misleading :
+      (careful (a-clock ++ (an-echo ++ (an-echo ++ a-clock))) ≡ refused (Misleads 1))
+      × (careful (a-clock ++ (report 1 8 20 2 (16385 ∷ []) ++ report 1 5 20 2 (16385 ∷ []))) ≡ refused (Misleads 2))
   -- plain writing is never 15
   pub plain-writes : packetOf Plain (header 0 ++ (an-echo ++ a-clock)) ≡ shown packet10
   -- with N > 0, or no blocks, 15 never applies

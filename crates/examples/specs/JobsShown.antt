@@ -56,6 +56,16 @@ pub record OfABlock : Type 0 where
       (recordOf Standard (rows (0x01000003 ∷ 7 ∷ 0x000a000f ∷ 0x40024000 ∷ [])) ≡ refused (BadBlockLength 12 16))
       × (recordOf Crate (rows (0x01000003 ∷ 7 ∷ 0x000a000f ∷ 0x40024000 ∷ []))
       ≡ shown (reported Loss (fields 7 10 15 0) (10 ∷ 11 ∷ [])))
+  -- begin off the grid: each reading's own numbers, with the same fields
+  pub off-the-grid :
+      (recordOf Standard (rows (0x01020003 ∷ 7 ∷ 0x00050014 ∷ 0x40040000 ∷ []))
+      ≡ shown (reported Loss (fields 7 5 20 2) (8 ∷ 12 ∷ 16 ∷ [])))
+      × (recordOf Crate (rows (0x01020003 ∷ 7 ∷ 0x00050014 ∷ 0x40040000 ∷ []))
+      ≡ shown (reported Loss (fields 7 5 20 2) (5 ∷ 9 ∷ 13 ∷ 17 ∷ [])))
+      × (recordOf Standard (rows (0x03020003 ∷ 7 ∷ 0x00050014 ∷ 100 ∷ []))
+      ≡ shown (received (fields 7 5 20 2) (pair 8 100 ∷ [])))
+      × (recordOf Crate (rows (0x03020003 ∷ 7 ∷ 0x00050014 ∷ 100 ∷ []))
+      ≡ shown (received (fields 7 5 20 2) (pair 5 100 ∷ [])))
 
 abbrev pub a-loss : Record
 a-loss = reported Loss (fields 7 10 15 1) (10 ∷ 12 ∷ [])

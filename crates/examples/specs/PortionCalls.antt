@@ -13,7 +13,7 @@ use Rattle.def_portions.specs.declared.Event.the-variants.{Header, Start, Range
 use Rattle.def_portions.specs.Calls.{Call, callOf, pastFault}
 use Rattle.def_portions.specs.Lists.{keeps, puts, tagOf, numberPart, valuePart, tagPart, laid}
 use Rattle.examples.specs.Rows.{rows, packet, fields}
-use Rattle.examples.specs.Portions.{pair, entry, time, mixed, bad-rule, bad-length, lost, lost-events}
+use Rattle.examples.specs.Portions.{pair, entry, time, mixed, off, bad-rule, bad-length, lost, lost-events}
 
 abbrev pub call : List Event → Checked → List ℕ → Call
 call es x b = record { events = es; refusal = x; taken = b }
@@ -43,6 +43,11 @@ pub record OneCall : Type 0 where
       ≡ call (Header 32 1 ∷ Start 99 8 ∷ Start 4 12 ∷ time 0x100000002 ∷ Start 98 4 ∷ End ∷ []) Fine mixed)
       × (callOf (take 8 mixed) (take 12 (drop 8 mixed)) 2 ≡ call (Start 99 8 ∷ Start 4 12 ∷ []) Fine (take 20 mixed))
       × (callOf (take 31 mixed) (drop 31 mixed) 2 ≡ call (Start 98 4 ∷ End ∷ []) Fine mixed)
+  -- begin off the grid: a word's numbers fit into room for two, and the second word has one
+  pub off-the-grid :
+      (callOf (take 20 off) (take 2 (drop 20 off)) 1 ≡ call [] (Unfit (NoRoom 2 1)) (take 20 off))
+      × (callOf (take 20 off) (take 2 (drop 20 off)) 2 ≡ call (Number 8 ∷ Number 12 ∷ []) Fine (take 22 off))
+      × (callOf (take 22 off) (take 2 (drop 22 off)) 1 ≡ call (Number 16 ∷ []) Fine (take 24 off))
   -- no bytes: nothing, and no room is needed
   pub none :
       (callOf [] [] 0 ≡ call [] Fine []) × (callOf (take 9 mixed) [] 0 ≡ call [] Fine (take 9 mixed))

@@ -90,6 +90,13 @@ loss = rows (0x01010003 ∷ 7 ∷ 0x000a000e ∷ 0x4001e000 ∷ [])
 abbrev pub times : List ℕ
 times = rows (0x03000005 ∷ 7 ∷ 0xffff0001 ∷ 100 ∷ 200 ∷ 300 ∷ [])
 
+-- from 5 to before 20 by fours, four ones: 8, 12, 16
+abbrev pub off-loss : List ℕ
+off-loss = rows (0x01020003 ∷ 7 ∷ 0x00050014 ∷ 0x40024002 ∷ [])
+
+abbrev pub off-start : Event
+off-start = RangedStart 1 16 (fields 7 5 20 2)
+
 abbrev pub clock : List ℕ
 clock = rows (0x04000002 ∷ 1 ∷ 2 ∷ [])
 
@@ -122,6 +129,14 @@ pub record BlockSoFar : Type 0 where
       × (blockEvents (take 16 times) ≡ times-start ∷ pair 65535 100 ∷ [])
       × (blockEvents (take 19 times) ≡ times-start ∷ pair 65535 100 ∷ [])
       × (blockEvents times ≡ times-start ∷ pair 65535 100 ∷ pair 0 200 ∷ [])
+  -- begin off the grid: from the first number on it, begin itself in the start; nothing where end comes before it
+  pub off-the-grid :
+      (blockEvents (take 13 off-loss) ≡ off-start ∷ [])
+      × (blockEvents (take 14 off-loss) ≡ off-start ∷ Number 8 ∷ Number 12 ∷ [])
+      × (blockEvents off-loss ≡ off-start ∷ Number 8 ∷ Number 12 ∷ Number 16 ∷ [])
+      × (blockEvents (rows (0x02020003 ∷ 7 ∷ 0x00050008 ∷ 0x40024002 ∷ [])) ≡ RangedStart 2 16 (fields 7 5 8 2) ∷ [])
+      × (blockEvents (rows (0x03020004 ∷ 7 ∷ 0x00050009 ∷ 100 ∷ 200 ∷ []))
+      ≡ RangedStart 3 20 (fields 7 5 9 2) ∷ pair 8 100 ∷ [])
   -- the start with byte 4, the time with byte 12
   pub of-clock :
       (blockEvents (take 4 clock) ≡ Start 4 12 ∷ []) × (blockEvents (take 11 clock) ≡ Start 4 12 ∷ [])
@@ -141,6 +156,10 @@ pub record BlockSoFar : Type 0 where
 -- three blocks: of 8 bytes, a clock, of 4
 abbrev pub mixed : List ℕ
 mixed = packet (0x63000001 ∷ 9 ∷ 0x04000002 ∷ 1 ∷ 2 ∷ 0x62000000 ∷ [])
+
+-- a block with a begin off the grid, and one of 4 bytes
+abbrev pub off : List ℕ
+off = packet (0x01020003 ∷ 7 ∷ 0x00050014 ∷ 0x40024002 ∷ 0x63000000 ∷ [])
 
 -- a block of 4 bytes, then a clock that says 16; and one that says 12, where 8 are left
 abbrev pub bad-rule : List ℕ
@@ -183,6 +202,11 @@ pub record SoFar : Type 0 where
   -- a block shows its own bytes, not those behind it
   pub own : courseOf (packet (0x01000002 ∷ 7 ∷ 0 ∷ 0x63000000 ∷ []))
       ≡ course (Header 24 1 ∷ RangedStart 1 12 (fields 7 0 0 0) ∷ Start 99 4 ∷ End ∷ []) Fine
+  -- a begin off the grid, and a block behind it
+  pub off-the-grid :
+      (courseOf (take 22 off) ≡ course (Header 28 1 ∷ off-start ∷ Number 8 ∷ Number 12 ∷ []) Fine)
+      × (courseOf off
+      ≡ course (Header 28 1 ∷ off-start ∷ Number 8 ∷ Number 12 ∷ Number 16 ∷ Start 99 4 ∷ End ∷ []) Fine)
   pub no-fuel : blocksFrom (packet []) 8 0 8 ≡ quiet
   -- 7 and 6 at a block's fourth byte: its start is not told, nor what is behind it
   pub seven :

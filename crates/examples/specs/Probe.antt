@@ -58,6 +58,13 @@ second = packet (0x63000000 ∷ 0x01000003 ∷ 7 ∷ 0x000a000e ∷ 0x40024002 �
 abbrev pub lost : List ℕ
 lost = packet (0x01000003 ∷ 7 ∷ 0x000a000e ∷ 0x40024000 ∷ [])
 
+-- a loss block from 5 to 20 by fours, and a type 3 block of the same
+abbrev pub off : List ℕ
+off = packet (0x01020003 ∷ 7 ∷ 0x00050014 ∷ 0x40024002 ∷ [])
+
+abbrev pub off-times : List ℕ
+off-times = packet (0x03020004 ∷ 7 ∷ 0x00050014 ∷ 100 ∷ 200 ∷ [])
+
 -- one receipt time, and a clock behind it
 abbrev pub two-blocks : List ℕ
 two-blocks = packet (0x03000003 ∷ 7 ∷ 0x00050009 ∷ 100 ∷ 0x04000002 ∷ 1 ∷ 2 ∷ [])
@@ -138,6 +145,14 @@ pub record OfLists : Type 0 where
       × (answerTo 14 (lists 0 0 1 0 lost) ≡ says ("refused 7 12 16" ∷ []))
       × (answerTo 2 (lists 1 0 1 9 lost) ≡ says ("numbers 10 11" ∷ []))
       × (answerTo 9 (lists 1 0 1 1 lost) ≡ says ("words 16386" ∷ []))
+  -- begin off the grid: three numbers fit into room for three
+  pub off-the-grid :
+      (answerTo 2 (lists 0 0 1 3 off) ≡ says ("numbers 8 12 16" ∷ []))
+      × (answerTo 2 (lists 0 0 1 2 off) ≡ says ("refused 11 3 2" ∷ []))
+      × (answerTo 2 (lists 1 0 1 2 off) ≡ says ("numbers 5 9" ∷ []))
+      × (answerTo 14 (lists 0 0 1 3 off) ≡ says ("numbers 8 12 16" ∷ []))
+      × (answerTo 2 (lists 0 0 3 2 off-times) ≡ says ("pairs 8 100 12 200" ∷ []))
+      × (answerTo 2 (lists 1 0 3 2 off-times) ≡ says ("pairs 5 100 9 200" ∷ []))
   pub of-any-type :
       (answerTo 14 (lists 1 0 1 4 packet4) ≡ says ("numbers 10 11" ∷ []))
       × (answerTo 14 (lists 0 0 1 3 packet4) ≡ says ("refused 11 4 3" ∷ []))
@@ -205,6 +220,10 @@ pub record OfStretches : Type 0 where
   pub steps-and-numbers :
       answerTo 4 (steps 0 1 0 0 0 3 3 (packet (0x01000003 ∷ 7 ∷ 0x000a000e ∷ 0x00024002 ∷ [])))
       ≡ says ("taken 3 word 1 place 1 position 3" ∷ "numbers 12" ∷ [])
+  pub off-the-grid :
+      (answerTo 4 (steps 0 1 0 0 0 9 9 off) ≡ says ("taken 4 word 2 place 0 position 4" ∷ "numbers 8 12 16" ∷ []))
+      × (answerTo 4 (steps 0 1 1 0 2 1 1 off) ≡ says ("taken 1 word 1 place 1 position 3" ∷ "numbers 16" ∷ []))
+      × (answerTo 4 (steps 0 1 1 1 3 1 1 off) ≡ says ("taken 1 word 2 place 0 position 4" ∷ "numbers" ∷ []))
   -- by the budget, by the place, by the asked type, by the block
   pub refused-stretches :
       (answerTo 4 (steps 0 1 0 1 1 2 1 packet4) ≡ says ("refused 11 2 1" ∷ []))
@@ -229,6 +248,13 @@ pub record OfWriting : Type 0 where
   pub careful :
       (answerTo 6 (le4 28 ++ reported) ≡ says ("packet 80cf0006000000010100000400000007000a000e4002400200000000" ∷ []))
       × (answerTo 6 (le4 27 ++ reported) ≡ says ("refused 11 28 27" ∷ []))
+  -- begin off the grid, plainly and carefully; moved up to it, carefully
+  pub off-the-grid :
+      (answerTo 5 (le4 24 ++ (header 0 ++ report 1 5 20 2 (16385 ∷ [])))
+      ≡ says ("packet 80cf00050000000101020003000000070005001440010000" ∷ []))
+      × (answerTo 6 (le4 24 ++ (header 0 ++ report 1 5 20 2 (16385 ∷ []))) ≡ says ("refused 15 0 0" ∷ []))
+      × (answerTo 6 (le4 24 ++ (header 0 ++ report 1 8 20 2 (16385 ∷ [])))
+      ≡ says ("packet 80cf00050000000101020003000000070008001440010000" ∷ []))
   -- a run of no length in the first of two records, and in the second
   pub lost-run :
       (answerTo 5 (le4 99 ++ (header 0 ++ report 1 10 14 0 (16386 ∷ 16384 ∷ []))) ≡ says ("refused 12 1 0" ∷ []))

@@ -7,7 +7,7 @@ use Rattle.def_dump.specs.EventLines.{givenLine}
 use Rattle.def_probe.specs.Requests.{cut, answerTo}
 use Rattle.examples.specs.Rows.{rows, packet, le2, le4, le4s}
 use Rattle.examples.specs.Text.{textOf}
-use Rattle.examples.specs.Probe.{says}
+use Rattle.examples.specs.Probe.{says, off}
 
 -- room, sizes, bytes
 abbrev pub gives : ℕ → List ℕ → List ℕ → List ℕ
@@ -83,6 +83,19 @@ pub record OfPortions : Type 0 where
       ∷ "refused 7 12 16"
       ∷ []))
       × (answerTo 12 (gives 2 [] lost) ≡ says ("refused 11 3 2" ∷ []))
+  -- begin off the grid, its two words apart
+  pub off-the-grid :
+      answerTo 12 (gives 9 (22 ∷ []) off)
+      ≡ says
+      ("header 24 1"
+      ∷ "start 1 16 ssrc 7 begin 5 end 20 thinning 2"
+      ∷ "number 8"
+      ∷ "number 12"
+      ∷ "taken 22 events 4"
+      ∷ "number 16"
+      ∷ "end"
+      ∷ "taken 2 events 2"
+      ∷ [])
   -- the most room
   pub room : answerTo 12 (gives 4294967295 [] (packet [])) ≡ says ("header 8 1" ∷ "end" ∷ "taken 8 events 2" ∷ [])
   -- five bytes; sizes that are not all there

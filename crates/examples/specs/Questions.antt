@@ -48,6 +48,19 @@ a-receipt = rows (0x03000003 ∷ 7 ∷ 0x00050009 ∷ 100 ∷ [])
 abbrev pub an-echo : List ℕ
 an-echo = rows (0x05000003 ∷ 1 ∷ 2 ∷ 3 ∷ [])
 
+-- types 1 and 2 from 5 to 20 by fours, and types 1 and 3 to 8
+abbrev pub off-loss : List ℕ
+off-loss = rows (0x01020003 ∷ 7 ∷ 0x00050014 ∷ 0x40040000 ∷ [])
+
+abbrev pub off-duplicate : List ℕ
+off-duplicate = rows (0x02020003 ∷ 7 ∷ 0x00050014 ∷ 0x40024002 ∷ [])
+
+abbrev pub empty-loss : List ℕ
+empty-loss = rows (0x01020003 ∷ 7 ∷ 0x00050008 ∷ 0x40010000 ∷ [])
+
+abbrev pub empty-receipt : List ℕ
+empty-receipt = rows (0x03020003 ∷ 7 ∷ 0x00050008 ∷ 100 ∷ [])
+
 -- of a block's view
 pub record OfAView : Type 0 where
   -- chunk words: standard all, crate all but the last; of type 1 and of type 2
@@ -113,6 +126,20 @@ pub record OfAView : Type 0 where
       ≡ shown (pair 0 1 ∷ pair 32768 2 ∷ []))
       × (pairsShown Crate (rows (0x030f0005 ∷ 7 ∷ 0x00009c40 ∷ 1 ∷ 2 ∷ 3 ∷ []))
       ≡ shown (pair 0 1 ∷ pair 32768 2 ∷ pair 0 3 ∷ []))
+  -- begin off the grid: the standard lists from the first number on it, the crate from begin
+  pub off-the-grid :
+      (numbersShown Standard Loss off-loss ≡ shown (8 ∷ 12 ∷ 16 ∷ []))
+      × (numbersShown Crate Loss off-loss ≡ shown (5 ∷ 9 ∷ 13 ∷ 17 ∷ []))
+      × (numbersShown Standard Duplicate off-duplicate ≡ shown (8 ∷ 12 ∷ 16 ∷ []))
+      × (numbersShown Crate Duplicate off-duplicate ≡ shown (5 ∷ 9 ∷ []))
+      × (pairsShown Standard (rows (0x03020004 ∷ 7 ∷ 0x00050014 ∷ 100 ∷ 200 ∷ []))
+      ≡ shown (pair 8 100 ∷ pair 12 200 ∷ []))
+      × (pairsShown Crate (rows (0x03020004 ∷ 7 ∷ 0x00050014 ∷ 100 ∷ 200 ∷ []))
+      ≡ shown (pair 5 100 ∷ pair 9 200 ∷ []))
+  -- end comes before it: the standard lists nothing, and refuses nothing
+  pub none-on-the-grid :
+      (numbersShown Standard Loss empty-loss ≡ shown []) × (numbersShown Crate Loss empty-loss ≡ shown (5 ∷ []))
+      × (pairsShown Standard empty-receipt ≡ shown []) × (pairsShown Crate empty-receipt ≡ shown (pair 5 100 ∷ []))
 
 -- blocks of types 1, 3 (one time), 4, 5 (one entry), and a type 1 block that is too short
 abbrev pub five-blocks : List ℕ
@@ -128,7 +155,7 @@ pub record OfAPacket : Type 0 where
       (wordsAsked Standard five-blocks 0 Loss ≡ shown (16386 ∷ 16387 ∷ []))
       × (wordsAsked Crate five-blocks 0 Loss ≡ shown (16386 ∷ []))
   pub numbers :
-      (numbersAsked Standard five-blocks 0 Loss ≡ shown (10 ∷ []))
+      (numbersAsked Standard five-blocks 0 Loss ≡ shown (12 ∷ []))
       × (numbersAsked Crate five-blocks 0 Loss ≡ shown (10 ∷ []))
   pub pairs :
       (pairsAsked Standard five-blocks 1 ≡ shown (pair 5 100 ∷ []))
@@ -222,7 +249,7 @@ pub record ByNumber : Type 0 where
   pub served :
       (wordsBy Standard five-blocks 0 1 ≡ shown (16386 ∷ 16387 ∷ []))
       × (wordsBy Crate five-blocks 0 1 ≡ shown (16386 ∷ []))
-      × (numbersBy Standard five-blocks 0 1 ≡ shown (10 ∷ []))
+      × (numbersBy Standard five-blocks 0 1 ≡ shown (12 ∷ []))
       × (fieldsBy Standard five-blocks 0 1 ≡ Shown (fields 7 10 14 2))
       × (fieldsBy Standard five-blocks 1 3 ≡ Shown (fields 8 5 6 0))
   pub served-by-two :

@@ -16,7 +16,7 @@ use Rattle.def_standard.specs.declared.Receipt.{Receipt}
 use Rattle.def_standard.specs.declared.Echo.{Echo}
 use Rattle.def_standard.specs.Chunks.{coversOf, valueOf, countFrom, valuesIn, chunkOf, wordOf, wordBytes}
 use Rattle.def_standard.specs.Listing.{listFrom}
-use Rattle.def_standard.specs.Range.{circle, sizeOf, rangeOf, offsetOf, inside, numberOf}
+use Rattle.def_standard.specs.Range.{circle, sizeOf, aheadOf, rangeOf, offsetOf, inside, numberOf}
 use Rattle.def_standard.specs.Standard.{valuesOf, isListed, numbersFrom, numbersOf, receipt, pairsFrom, pairsOf}
 use Rattle.def_standard.specs.Standard.{echoesOf, standardWords, standardNumbers, standardPairs, entriesOf}
 use Rattle.examples.specs.Rows.{rows, fields}
@@ -85,7 +85,32 @@ pub record Ranges : Type 0 where
   pub size :
       (sizeOf 10 14 ≡ 4) × (sizeOf 65534 2 ≡ 4) × (sizeOf 1 0 ≡ 65535) × (sizeOf 0 65535 ≡ 65535) × (sizeOf 0 1 ≡ 1)
       × (sizeOf 5 5 ≡ 65536) × (sizeOf 0 0 ≡ 65536)
-  pub of-fields : rangeOf (fields 7 65530 2 3) ≡ range 65530 8 3
+  -- d: 0 where begin is on the grid, else up to the next number on it, and never down; without thinning always 0
+  pub ahead :
+      (map (λ b. aheadOf b 2) (0 ∷ 1 ∷ 4 ∷ 5 ∷ 6 ∷ 7 ∷ 8 ∷ 9 ∷ []) ≡ 0 ∷ 3 ∷ 0 ∷ 3 ∷ 2 ∷ 1 ∷ 0 ∷ 3 ∷ [])
+      × (map (λ b. aheadOf b 0) (0 ∷ 1 ∷ 5 ∷ 65535 ∷ []) ≡ 0 ∷ 0 ∷ 0 ∷ 0 ∷ [])
+      × (map (λ b. aheadOf b 1) (0 ∷ 1 ∷ 2 ∷ 65535 ∷ []) ≡ 0 ∷ 1 ∷ 0 ∷ 1 ∷ [])
+  -- by 2^T and not by T: the largest T, and two that no block has
+  pub ahead-far :
+      (map (λ b. aheadOf b 15) (0 ∷ 1 ∷ 32767 ∷ 32768 ∷ 32769 ∷ 65535 ∷ []) ≡ 0 ∷ 32767 ∷ 1 ∷ 0 ∷ 32767 ∷ 1 ∷ [])
+      × (map (λ b. aheadOf b 16) (0 ∷ 1 ∷ 32768 ∷ 65535 ∷ []) ≡ 0 ∷ 65535 ∷ 32768 ∷ 1 ∷ [])
+      × (map (λ b. aheadOf b 17) (0 ∷ 1 ∷ 65535 ∷ []) ≡ 0 ∷ 131071 ∷ 65537 ∷ [])
+  -- from the first number on the grid, R less d numbers: begin on the grid, and off it; the first number wraps
+  pub of-fields :
+      (rangeOf (fields 7 8 20 2) ≡ range 8 12 2) × (rangeOf (fields 7 5 20 0) ≡ range 5 15 0)
+      × (rangeOf (fields 7 65528 2 3) ≡ range 65528 10 3) × (rangeOf (fields 7 5 20 2) ≡ range 8 12 2)
+      × (rangeOf (fields 7 65530 2 3) ≡ range 0 2 3) × (rangeOf (fields 7 65533 10 2) ≡ range 0 10 2)
+      × (rangeOf (fields 7 1 0 15) ≡ range 32768 32768 15)
+  -- nothing where end comes first: one before the first number on the grid, on it, and one behind it
+  pub end-first :
+      map (λ e. rangeOf (fields 7 5 e 2)) (6 ∷ 7 ∷ 8 ∷ 9 ∷ [])
+      ≡ range 8 0 2 ∷ range 8 0 2 ∷ range 8 0 2 ∷ range 8 1 2 ∷ []
+  pub end-first-wrapped :
+      map (λ e. rangeOf (fields 7 65533 e 2)) (65535 ∷ 0 ∷ 1 ∷ []) ≡ range 0 0 2 ∷ range 0 0 2 ∷ range 0 1 2 ∷ []
+  -- begin = end: the whole circle less d
+  pub begin-is-end :
+      (rangeOf (fields 7 5 5 2) ≡ range 8 65533 2) × (rangeOf (fields 7 8 8 2) ≡ range 8 65536 2)
+      × (rangeOf (fields 7 1 1 15) ≡ range 32768 32769 15) × (rangeOf (fields 7 65535 65535 15) ≡ range 0 65535 15)
   -- p · 2^T, which does not wrap
   pub offset :
       (offsetOf (range 9 1 0) 5 ≡ 5) × (offsetOf (range 9 1 3) 5 ≡ 40) × (offsetOf (range 9 1 15) 2 ≡ 65536)
@@ -101,6 +126,20 @@ pub record Ranges : Type 0 where
   pub number :
       (numberOf (range 10 4 0) 3 ≡ 13) × (numberOf (range 65534 4 0) 2 ≡ 0) × (numberOf (range 65534 64 3) 5 ≡ 38)
       × (numberOf (range 1 65536 15) 2 ≡ 1)
+  -- of a block's fields: inside where d + p · 2^T < R, with number (begin + d + p · 2^T) mod 65536
+  pub on-the-grid :
+      (map (inside (rangeOf (fields 7 5 20 2))) (0 ∷ 1 ∷ 2 ∷ 3 ∷ []) ≡ true ∷ true ∷ true ∷ false ∷ [])
+      × (map (inside (rangeOf (fields 7 5 21 2))) (2 ∷ 3 ∷ 4 ∷ []) ≡ true ∷ true ∷ false ∷ [])
+      × (map (numberOf (rangeOf (fields 7 5 21 2))) (0 ∷ 1 ∷ 2 ∷ 3 ∷ []) ≡ 8 ∷ 12 ∷ 16 ∷ 20 ∷ [])
+      × (map (numberOf (rangeOf (fields 7 65533 10 2))) (0 ∷ 1 ∷ 2 ∷ []) ≡ 0 ∷ 4 ∷ 8 ∷ [])
+      × (map (inside (rangeOf (fields 7 5 8 2))) (0 ∷ 1 ∷ []) ≡ false ∷ false ∷ [])
+      × (map (inside (rangeOf (fields 7 5 9 2))) (0 ∷ 1 ∷ []) ≡ true ∷ false ∷ [])
+  -- round the whole circle: the last position inside, and one past it
+  pub round :
+      (map (inside (rangeOf (fields 7 5 5 2))) (16383 ∷ 16384 ∷ []) ≡ true ∷ false ∷ [])
+      × (numberOf (rangeOf (fields 7 5 5 2)) 16383 ≡ 4)
+      × (map (inside (rangeOf (fields 7 1 1 15))) (0 ∷ 1 ∷ 2 ∷ []) ≡ true ∷ true ∷ false ∷ [])
+      × (map (numberOf (rangeOf (fields 7 1 1 15))) (0 ∷ 1 ∷ []) ≡ 32768 ∷ 0 ∷ [])
   pub all-numbers : circle ≡ 65536
 
 pub record Lists : Type 0 where
@@ -148,7 +187,21 @@ pub record OfABlock : Type 0 where
       × (standardWords (rows (0x01000002 ∷ 7 ∷ 0x000a000e ∷ [])) ≡ [])
   pub numbers : standardNumbers (rows (0x01010003 ∷ 7 ∷ 0x000a0010 ∷ 0x40024002 ∷ [])) ≡ 10 ∷ 12 ∷ 14 ∷ []
   pub none : standardNumbers (rows (0x01000002 ∷ 7 ∷ 0x000a000e ∷ [])) ≡ []
-  pub times : standardPairs (rows (0x03010004 ∷ 7 ∷ 0x00050009 ∷ 100 ∷ 200 ∷ [])) ≡ pair 5 100 ∷ pair 7 200 ∷ []
+  pub times : standardPairs (rows (0x03010004 ∷ 7 ∷ 0x00050009 ∷ 100 ∷ 200 ∷ [])) ≡ pair 6 100 ∷ pair 8 200 ∷ []
+  -- from 5 by fours: 8, 12, 16, and no more before 20, one more before 21; past 65535; where end comes first nothing
+  pub off-the-grid :
+      (standardNumbers (rows (0x01020003 ∷ 7 ∷ 0x00050014 ∷ 0x40040000 ∷ [])) ≡ 8 ∷ 12 ∷ 16 ∷ [])
+      × (standardNumbers (rows (0x01020003 ∷ 7 ∷ 0x00050015 ∷ 0x40024003 ∷ [])) ≡ 8 ∷ 12 ∷ 16 ∷ 20 ∷ [])
+      × (standardNumbers (rows (0x02020003 ∷ 7 ∷ 0x00050014 ∷ 0xd0010000 ∷ [])) ≡ 8 ∷ 16 ∷ [])
+      × (standardNumbers (rows (0x01020003 ∷ 7 ∷ 0xfffd000a ∷ 0x40040000 ∷ [])) ≡ 0 ∷ 4 ∷ 8 ∷ [])
+      × (standardNumbers (rows (0x01020003 ∷ 7 ∷ 0x00050008 ∷ 0x40040000 ∷ [])) ≡ [])
+      × (standardNumbers (rows (0x01020003 ∷ 7 ∷ 0x00050009 ∷ 0x40040000 ∷ [])) ≡ 8 ∷ [])
+  pub times-off-the-grid :
+      (standardPairs (rows (0x03020006 ∷ 7 ∷ 0x00050014 ∷ 100 ∷ 200 ∷ 300 ∷ 400 ∷ []))
+      ≡ pair 8 100 ∷ pair 12 200 ∷ pair 16 300 ∷ [])
+      × (standardPairs (rows (0x03020004 ∷ 7 ∷ 0xfffd000a ∷ 100 ∷ 200 ∷ [])) ≡ pair 0 100 ∷ pair 4 200 ∷ [])
+      × (standardPairs (rows (0x03020003 ∷ 7 ∷ 0x00050008 ∷ 100 ∷ [])) ≡ [])
+      × (standardPairs (rows (0x03020004 ∷ 7 ∷ 0x00050009 ∷ 100 ∷ 200 ∷ [])) ≡ pair 8 100 ∷ [])
   pub entries :
       (entriesOf (rows (0x05000006 ∷ 1 ∷ 2 ∷ 3 ∷ 4 ∷ 5 ∷ 6 ∷ [])) ≡ echo 1 2 3 ∷ echo 4 5 6 ∷ [])
       × (entriesOf (rows (0x05000000 ∷ [])) ≡ [])
