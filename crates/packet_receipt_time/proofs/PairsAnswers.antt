@@ -30,7 +30,7 @@ use Rattle.def_questions.specs.Packets.{pairsAsked}
 use Rattle.range.specs.Grid.{fromBegin}
 use Rattle.range.specs.Steps.{stepOf}
 use Rattle.range.specs.Failing.{never}
-use Rattle.range.proofs.GridLaws.{range-thinning}
+use Rattle.range.proofs.GridLaws.{range-thinning, range-begin}
 use Rattle.range.proofs.NumberLaws.{numberOf-zero}
 use Rattle.packet_receipt_time.specs.Pairs.{rangeBy, listable, firstPairs, stepped, numberIn, timeIn}
 use Rattle.packet_receipt_time.specs.Pairs.{Stored}
@@ -72,8 +72,8 @@ module _ (r : Reading) (v : List ℕ) where
   pairs-unfit x e = rw e
 
 -- what a reading counts from
-pub first-standard : (r : Reading) (f : Fields) → r ≡ Standard → numberOf (rangeOf f) 0 ≡ numberOf (rangeBy r f) 0
-first-standard r f e = rw e
+pub first-standard : (r : Reading) (f : Fields) → r ≡ Standard → rangeOf f .begin ≡ numberOf (rangeBy r f) 0
+first-standard r f e = rw e (sym (numberOf-zero (rangeOf f) (range-begin f)))
 
 pub first-crate : (r : Reading) (f : Fields) → f .begin < 65536 → r ≡ Crate → f .begin ≡ numberOf (rangeBy r f) 0
 first-crate r f h e = rw e (sym (numberOf-zero (fromBegin f) h))

@@ -52,7 +52,7 @@ fn first_of(r: Reading, f: Fields) -> u16
     ensures { λ n. ⌜ n ≡ numberOf (rangeBy r f) 0 ⌝ }
 {
     match r {
-        Reading::Standard => range::number_at(range::range_of(f), 0),
+        Reading::Standard => range::range_of(f).begin,
         Reading::Crate => f.begin,
     }
 }
