@@ -176,7 +176,7 @@ macro_rules! of_its_block {
 /// What the records with a range of sequence numbers answer.
 macro_rules! of_its_fields {
     () => {
-        /// Every 2^thinning sequence numbers one is reported: 0 to 15.
+        /// The sequence numbers that are 0 mod 2^thinning are reported on: 0 to 15.
         pub fn thinning(&self) -> u8 {
             self.fields.thinning
         }

@@ -60,7 +60,7 @@ pub struct Fields {
     pub begin: u16,
     /// The first sequence number behind the range.
     pub end: u16,
-    /// Every 2^thinning sequence numbers one is reported: 0 to 15.
+    /// The sequence numbers that are 0 mod 2^thinning are reported on: 0 to 15.
     pub thinning: u8,
 }
 
