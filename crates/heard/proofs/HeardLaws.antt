@@ -21,7 +21,7 @@ use Rattle.def_standard.specs.Standard.{valuesOf, numbersFrom, numbersOf}
 use Rattle.range.specs.Grid.{fromBegin}
 use Rattle.range.specs.Steps.{stepOf}
 use Rattle.range.specs.Inside.{ceilDiv, insideCount}
-use Rattle.range.proofs.GridLaws.{ahead-whole, range-on-grid}
+use Rattle.range.proofs.GridLaws.{whole-on-grid, range-on-grid}
 use Rattle.ones.specs.Along.{along}
 use Rattle.ones.specs.Places.{numbersIn}
 use Rattle.ones.proofs.ListingLaws.{along-padded}
@@ -99,7 +99,7 @@ module _ (s b : ℕ) (ms : List ℕ) (h : b < 65536) (k : length ms ≤ 65536) (
   f = heardFields s b ms
 
   whole-range : rangeOf f ≡ fromBegin f
-  whole-range = range-on-grid f h (ahead-whole b)
+  whole-range = range-on-grid f h (whole-on-grid f refl)
 
   all-inside : length ms ≤ insideCount (fromBegin f)
   unfolding insideCount ceilDiv
@@ -112,5 +112,5 @@ module _ (s b : ℕ) (ms : List ℕ) (h : b < 65536) (k : length ms ≤ 65536) (
 
   pub quiet-heard : misledWords (heardFields s b ms) (wordsOf ms) ≡ false
   quiet-heard =
-      rw (shared-on f (ahead-whole b), whole-range)
+      rw (shared-on f (whole-on-grid f refl), whole-range)
       (quiet-words (fromBegin f) (endOf b ms) ms marks 0 (omega (arith, all-inside)))

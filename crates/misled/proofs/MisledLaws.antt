@@ -6,7 +6,6 @@ use Prim.Native.Nat.{ℕ, _+_, _-_, _/_}
 use mathlib.Core.Path.{_≡_, sym, _∙_}
 use mathlib.Core.Bool.{true, false}
 use lib.ListN.{length}
-use borrow.Author.Tests.{eq-eqb, ne-eqb}
 use Rattle.def_wire.specs.declared.Fields.{Fields}
 use Rattle.def_wire.specs.declared.Rle.{Rle}
 use Rattle.def_wire.specs.declared.Ranged.the-variants.{Chunks, Times}
@@ -14,7 +13,8 @@ use Rattle.def_wire.specs.declared.Kind.the-variants.{Spans}
 use Rattle.def_wire.specs.declared.KindOr.{KindOr}
 use Rattle.def_wire.specs.declared.KindOr.the-variants.{AKind}
 use Rattle.def_wire.specs.Block.{kindOf}
-use Rattle.def_standard.specs.Range.{aheadOf, rangeOf}
+use Rattle.def_standard.specs.Range.{rangeOf}
+use Rattle.range.specs.Grid.{onGrid}
 use Rattle.def_jobs.specs.Jobs.{Job, jobFields, isBlockJob}
 use Rattle.block_size.specs.Judged.{Fielded}
 use Rattle.block_size.proofs.JudgeLaws.{fields-are, good-words, block-as}
@@ -22,14 +22,13 @@ use Rattle.block_size.proofs.ZerosLaws.{length-times}
 use Rattle.misled.specs.Misled.{sharedOf, misledTimes, misledAs, misledBy}
 
 module _ (f : Fields) where
-  pub shared-on : aheadOf (f .begin) (f .thinning) ≡ 0 → sharedOf f ≡ rangeOf f
+  pub shared-on : onGrid f ≡ true → sharedOf f ≡ rangeOf f
   unfolding sharedOf
-  shared-on z = rw (eq-eqb _ _ z)
+  shared-on on = rw on
 
-  pub shared-off : (aheadOf (f .begin) (f .thinning) ≡ 0 → ⊥)
-      → sharedOf f ≡ record { begin = f .begin; size = 0; thinning = f .thinning }
+  pub shared-off : onGrid f ≡ false → sharedOf f ≡ record { begin = f .begin; size = 0; thinning = f .thinning }
   unfolding sharedOf
-  shared-off n = rw (ne-eqb _ _ n)
+  shared-off off = rw off
 
 module _ (j : Job) (behind : ℕ) where
   pub misled-bad : isBlockJob j ≡ false → false ≡ misledBy j behind

@@ -24,8 +24,9 @@ use Rattle.def_wire.specs.declared.KindOr.the-variants.{AKind, NoKind}
 use Rattle.def_wire.specs.Block.{kindOf}
 use Rattle.def_standard.specs.declared.Range.{Range}
 use Rattle.def_standard.specs.Chunks.{coversOf, valuesIn}
-use Rattle.def_standard.specs.Range.{aheadOf, rangeOf, inside, numberOf}
+use Rattle.def_standard.specs.Range.{rangeOf, inside, numberOf}
 use Rattle.def_crate.specs.Sequence.{passes}
+use Rattle.range.specs.Grid.{onGrid}
 use Rattle.range.specs.Inside.{insideCount}
 use Rattle.range.specs.Failing.{firstFail}
 use Rattle.def_jobs.specs.declared.Layout.the-variants.{Careful}
@@ -36,8 +37,7 @@ use Rattle.def_jobs.specs.Layout.{blocksBytes}
 -- the crate's, counted from begin, all off it
 unfoldable pub sharedOf : Fields → Range
 sharedOf f =
-    cond (eqb (aheadOf (f .begin) (f .thinning)) 0) (rangeOf f)
-    (record { begin = f .begin; size = 0; thinning = f .thinning })
+    cond (onGrid f) (rangeOf f) (record { begin = f .begin; size = 0; thinning = f .thinning })
 
 -- of a word whose first position is p: the first place, from place q on, of value one and outside the range; the place
 -- past the values where there is none

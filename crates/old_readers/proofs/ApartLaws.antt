@@ -6,29 +6,29 @@
 --     lists-differ                  the two lists differ where `misledWords` says so
 use Prim.Native.Nat.{ℕ, suc, _+_, _%_, _^_, _≤_, _<_}
 use mathlib.Core.Path.{_≡_, refl, sym, ap, _∙_}
-use mathlib.Core.Bool.{Bool, not}
+use mathlib.Core.Bool.{Bool, true, false, not}
 use mathlib.Core.List.{List, [], _∷_, _++_, map, append-nil}
 use native.Mathlib.Nat.{mod-lt}
 use native.Mathlib.Omega.{arith}
 use lib.Dec.{eqb, lit<}
-use borrow.Author.Tests.{eqb-true, eqb-false, ne-eqb, ltb-false}
+use borrow.Author.Tests.{eqb-false, ne-eqb, ltb-false}
 use Rattle.laws.proofs.Tests.{either, true≢false}
 use Rattle.def_wire.specs.declared.Fields.{Fields}
 use Rattle.def_standard.specs.declared.Range.{Range}
 use Rattle.def_standard.specs.declared.Receipt.{Receipt}
 use Rattle.def_standard.specs.Chunks.{coversOf}
 use Rattle.def_standard.specs.Listing.{listFrom}
-use Rattle.def_standard.specs.Range.{sizeOf, aheadOf, rangeOf, inside, numberOf}
+use Rattle.def_standard.specs.Range.{sizeOf, rangeOf, inside, numberOf}
 use Rattle.def_standard.specs.Standard.{valuesOf, isListed, numbersFrom, numbersOf, receipt, pairsFrom, pairsOf}
 use Rattle.def_crate.specs.Sequence.{sequenceOf, passes, movedBy}
 use Rattle.def_crate.specs.Crate.{Try, whileFrom, onesIn, tryAt, triesFrom, crateNumbersFrom}
 use Rattle.def_jobs.specs.Shown.{sameRow}
-use Rattle.range.specs.Grid.{fromBegin}
+use Rattle.range.specs.Grid.{onGrid, fromBegin}
 use Rattle.range.specs.Inside.{insideCount}
 use Rattle.range.proofs.InsideLaws.{inside-count, inside-count-le, is-outside}
 use Rattle.range.proofs.SequenceLaws.{moved-sequence}
 use Rattle.range.proofs.NumberLaws.{numberOf-zero, numberOf-on}
-use Rattle.range.proofs.GridLaws.{ahead-on, number-grid, listed-grid, inside-fewer, range-on-grid}
+use Rattle.range.proofs.GridLaws.{number-grid, listed-grid, inside-fewer, range-on-grid}
 use Rattle.ones.proofs.NumbersLaws.{numbers-outside}
 use Rattle.misled.specs.Misled.{goesOn, misledWords}
 use Rattle.misled.proofs.MisledLaws.{shared-on, shared-off}
@@ -148,16 +148,15 @@ module _ (f : Fields) (begin-fits : f .begin < 65536) (end-fits : f .end < 65536
   wide-leads = words-lead (f .begin) (f .end) (f .thinning) (sizeOf (f .begin) (f .end)) begin-fits end-fits
       (omega arith) ws
 
-  on-grid : aheadOf (f .begin) (f .thinning) ≡ 0 → not (sameRow inCrate (numbersOf (rangeOf f) ws)) ≡ misledWords f ws
-  on-grid z =
+  on-grid : onGrid f ≡ true → not (sameRow inCrate (numbersOf (rangeOf f) ws)) ≡ misledWords f ws
+  on-grid on =
       let l = wide-leads in
-      rw (shared-on f z, range-on-grid f begin-fits z)
+      rw (shared-on f on, range-on-grid f begin-fits on)
       (rw (← l .split) (rows-differ (numbersOf (fromBegin f) ws) (l .more)) ∙ l .goes)
 
-  off-grid : (aheadOf (f .begin) (f .thinning) ≡ 0 → ⊥)
-      → not (sameRow inCrate (numbersOf (rangeOf f) ws)) ≡ misledWords f ws
+  off-grid : onGrid f ≡ false → not (sameRow inCrate (numbersOf (rangeOf f) ws)) ≡ misledWords f ws
   unfolding numbersFrom
-  off-grid n =
+  off-grid off =
       let none : Range = record { begin = f .begin; size = 0; thinning = f .thinning } in
       let r = f .begin % 2 ^ (f .thinning) in
       let l = words-lead (f .begin) (f .end) (f .thinning) 0 begin-fits end-fits (omega arith) ws in
@@ -166,13 +165,13 @@ module _ (f : Fields) (begin-fits : f .begin < 65536) (end-fits : f .end < 65536
       let empty : inCrate ≡ [] → numbersOf (rangeOf f) ws ≡ [] = λ e.
       nothing-fewer (rangeOf f) (fromBegin f) (inside-fewer f) 0 (valuesOf ws)
       (nothing-before (numbersOf (fromBegin f) ws) (wide-leads .more) (wide-leads .split ∙ e)) in
-      rw (shared-off f n)
+      rw (shared-off f off)
       (rows-apart (f .thinning) r inCrate (numbersOf (rangeOf f) ws)
       (crate-grid (f .thinning) r thin (f .end) (f .begin) ws begin-fits refl) (numbers-grid f thin ws)
-      (λ z. n (ahead-on (f .begin) (f .thinning) z)) empty
+      (eqb-false _ _ off) empty
       ∙ ap isSome (sym all) ∙ l .goes)
 
   pub lists-differ : not (sameRow (crateNumbersFrom (f .end) (f .thinning) (f .begin) ws) (numbersOf (rangeOf f) ws))
       ≡ misledWords f ws
   lists-differ =
-      either (eqb (aheadOf (f .begin) (f .thinning)) 0) (λ t. on-grid (eqb-true _ _ t)) (λ t. off-grid (eqb-false _ _ t))
+      either (onGrid f) on-grid off-grid

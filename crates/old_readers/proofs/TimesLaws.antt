@@ -10,7 +10,7 @@ use native.Mathlib.Nat.{sub-zero}
 use native.Mathlib.Omega.{arith}
 use lib.ListN.{length, drop, length-append}
 use lib.Dec.{eqb, eqb·zero-suc, eqb·suc-zero, eqb·suc-suc}
-use borrow.Author.Tests.{le-ltb, eq-eqb, ne-eqb, eqb-true, eqb-false}
+use borrow.Author.Tests.{le-ltb, eq-eqb, ne-eqb, eqb-false}
 use Rattle.laws.proofs.Tests.{either}
 use Rattle.def_refusals.specs.Answers.{shown}
 use Rattle.def_wire.specs.declared.Reading.the-variants.{Standard, Crate}
@@ -22,7 +22,7 @@ use Rattle.def_wire.specs.Bytes.{words32, four}
 use Rattle.def_wire.specs.Block.{receiptType, rleOf, rangedOf, kindOf, crateRule, fitness, checkOf, fieldsOf}
 use Rattle.def_standard.specs.declared.Range.{Range}
 use Rattle.def_standard.specs.declared.Receipt.{Receipt}
-use Rattle.def_standard.specs.Range.{aheadOf, rangeOf, numberOf}
+use Rattle.def_standard.specs.Range.{rangeOf, numberOf}
 use Rattle.def_crate.specs.Crate.{cratePairsFrom}
 use Rattle.def_questions.specs.Questions.{pairsShown}
 use Rattle.def_jobs.specs.declared.Layout.the-variants.{Careful}
@@ -32,12 +32,12 @@ use Rattle.def_jobs.specs.Layout.{bytesOf, bytesAs}
 use Rattle.def_jobs.specs.Writing.{maxBytes, differs}
 use Rattle.utils.proofs.BytesLaws.{length-words32}
 use Rattle.little_endian.proofs.LowLaws.{length-bytesOf}
-use Rattle.range.specs.Grid.{fromBegin}
+use Rattle.range.specs.Grid.{onGrid, fromBegin}
 use Rattle.range.specs.Inside.{insideCount}
 use Rattle.range.specs.Failing.{firstFail, never}
 use Rattle.range.proofs.InsideLaws.{inside-count-le}
 use Rattle.range.proofs.NumberLaws.{numberOf-zero}
-use Rattle.range.proofs.GridLaws.{ahead-on, listed-grid, range-on-grid}
+use Rattle.range.proofs.GridLaws.{listed-grid, range-on-grid}
 use Rattle.range.proofs.FailLaws.{first-pos}
 use Rattle.packet_receipt_time.specs.Pairs.{firstPairs}
 use Rattle.packet_receipt_time.proofs.PairsLaws.{first-all, pairs-standard, pairs-crate}
@@ -140,13 +140,12 @@ module _ (j : Job) where
         (pairs-crate (jobFields j) (fits .begin) (fits .end) 0 (own ++ words32 rest) few (omega arith))))
 
 -- off the grid the crate's first number is begin, and the standard's is on the grid
-firsts-apart : (f : Fields) → Fits f → (aheadOf (f .begin) (f .thinning) ≡ 0 → ⊥)
-    → numberOf (fromBegin f) 0 ≡ numberOf (rangeOf f) 0 → ⊥
-firsts-apart f fits n e =
+firsts-apart : (f : Fields) → Fits f → onGrid f ≡ false → numberOf (fromBegin f) 0 ≡ numberOf (rangeOf f) 0 → ⊥
+firsts-apart f fits off e =
     let thin = fits .thinning in
-    n (ahead-on (f .begin) (f .thinning)
+    eqb-false _ _ off
     (ap (λ (x : ℕ). x % 2 ^ (f .thinning)) (sym (numberOf-zero (fromBegin f) (fits .begin)) ∙ e)
-    ∙ listed-grid f 0 (omega arith)))
+    ∙ listed-grid f 0 (omega arith))
 
 -- the two stretches, of fields whose numbers fit
 stretches-differ : (f : Fields) → Fits f → (ts us : List ℕ)
@@ -156,16 +155,14 @@ stretches-differ : (f : Fields) → Fits f → (ts us : List ℕ)
 unfolding misledTimes
 stretches-differ f fits ts us =
     let stop = firstFail (f .begin) (f .end) (f .thinning) in
-    either (eqb (aheadOf (f .begin) (f .thinning)) 0)
-    (λ t. let z : aheadOf (f .begin) (f .thinning) ≡ 0 = eqb-true _ _ t in
-    rw (shared-on f z, range-on-grid f (fits .begin) z)
+    either (onGrid f)
+    (λ on. rw (shared-on f on, range-on-grid f (fits .begin) on)
     (ap not (same-first (fromBegin f) stop (insideCount (fromBegin f)) ts us)))
-    (λ e. let n : aheadOf (f .begin) (f .thinning) ≡ 0 → ⊥ = eqb-false _ _ e in
-    let none : Range = record { begin = f .begin; size = 0; thinning = f .thinning } in
+    (λ off. let none : Range = record { begin = f .begin; size = 0; thinning = f .thinning } in
     let nothing : min (insideCount none) (length ts) ≡ 0 = omega (arith, inside-count-le none) in
-    rw (shared-off f n, nothing)
+    rw (shared-off f off, nothing)
     (ap not
-    (same-apart (fromBegin f) (rangeOf f) stop (insideCount (rangeOf f)) ts us (firsts-apart f fits n)
+    (same-apart (fromBegin f) (rangeOf f) stop (insideCount (rangeOf f)) ts us (firsts-apart f fits off)
     (first-pos (f .begin) (f .end) (f .thinning) (fits .begin) (fits .end)))))
 
 pub times-mislead : (j : Job) → hasFields j 4 ≡ true → Body j → (rest : List ℕ)

@@ -2,11 +2,11 @@
 -- `aheadOf` and `rangeOf`. Assumes nothing.
 --     ahead-on, ahead-off             how far the grid's first number lies ahead, by where begin stands
 --     grid-sum, sum-on-grid           that number is begin rounded up, and on the grid
---     ahead-whole                     by thinning 0 it is begin
 --     range-size, range-begin         what is reported on lies on the circle
 --     inside-ahead, number-ahead      a position's test and its number, by d
 --     number-grid, listed-grid        every number lies where the first does on the grid; a block's, on it
 --     range-on-grid, begin-on-grid    where begin is on the grid the range is the crate's, and there only
+--     whole-on-grid                   by thinning 0 it always is
 use Prim.Native.Nat.{ℕ, zero, suc, _+_, _*_, _-_, _/_, _%_, _^_, _≤_, _<_, min}
 use mathlib.Core.Path.{_≡_, refl, sym, ap, ap₂, _∙_}
 use mathlib.Core.Bool.{true, false}
@@ -21,7 +21,7 @@ use Rattle.laws.proofs.Tests.{either, both}
 use Rattle.def_wire.specs.declared.Fields.{Fields}
 use Rattle.def_standard.specs.declared.Range.{Range}
 use Rattle.def_standard.specs.Range.{circle, sizeOf, aheadOf, rangeOf, offsetOf, inside, numberOf}
-use Rattle.range.specs.Grid.{fromBegin}
+use Rattle.range.specs.Grid.{onGrid, fromBegin}
 use Rattle.range.specs.Inside.{ceilDiv, insideCount}
 use Rattle.range.proofs.InsideLaws.{ceil-below, ceil-above, ceil-far}
 
@@ -70,10 +70,6 @@ module _ (b t : ℕ) where
 -- and is on the grid
 pub sum-on-grid : (b t : ℕ) → (b + aheadOf b t) % 2 ^ t ≡ 0
 sum-on-grid b t = ap (λ (n : ℕ). n % 2 ^ t) (grid-sum b t) ∙ mul-mod-left (ceilDiv b (2 ^ t)) (2 ^ t)
-
--- every number is on the grid of thinning 0
-pub ahead-whole : (b : ℕ) → aheadOf b 0 ≡ 0
-ahead-whole b = ahead-on b 0 (mod-one b)
 
 -- ---- of a block's fields
 
@@ -211,22 +207,29 @@ module _ (f : Fields) where
       let far : r ≤ ceilDiv r m * m = ceil-far r m (pow-pos t) (ceilDiv r m) (omega arith) in
       ceil-above (r - d) m (pow-pos t) (ceilDiv r m) (omega arith)
 
+  -- every number is on the grid of thinning 0
+  pub whole-on-grid : f .thinning ≡ 0 → onGrid f ≡ true
+  whole-on-grid z = rw z (eq-eqb _ _ (mod-one (f .begin)))
+
   -- where begin is on the grid the range is the crate's
   module _ (fits : f .begin < 65536) where
-    pub range-on-grid : aheadOf (f .begin) (f .thinning) ≡ 0 → rangeOf f ≡ fromBegin f
+    pub range-on-grid : onGrid f ≡ true → rangeOf f ≡ fromBegin f
     unfolding rangeOf
-    range-on-grid z =
+    range-on-grid on =
+        let z : d ≡ 0 = ahead-on b t (eqb-true _ _ on) in
         let e : (b + 0) % 65536 ≡ b = omega arith in
         rw (z, e, sub-zero (sizeOf (f .begin) (f .end)))
 
     -- and there only it begins with begin
-    pub begin-on-grid : eqb (rangeOf f .begin) (f .begin) ≡ eqb (aheadOf (f .begin) (f .thinning)) 0
+    pub begin-on-grid : eqb (rangeOf f .begin) (f .begin) ≡ onGrid f
     unfolding rangeOf
     begin-on-grid =
-        either (eqb d 0)
-        (λ u. let z : d ≡ 0 = eqb-true _ _ u in
+        either (onGrid f)
+        (λ u. let z : d ≡ 0 = ahead-on b t (eqb-true _ _ u) in
         let e : (b + d) % 65536 ≡ b = omega arith in eq-eqb _ _ e ∙ sym u)
-        (λ v. let n : d ≡ 0 → ⊥ = eqb-false _ _ v in
+        (λ v. let rest : b % 2 ^ t ≡ 0 → ⊥ = eqb-false _ _ v in
+        let less : b % 2 ^ t < 2 ^ t = mod-lt b (pow-pos t) in
+        let n : d ≡ 0 → ⊥ = λ z. omega (arith, z, ahead-off b t rest) in
         let away : (b + d) % 65536 ≡ b → ⊥ = either (ltb t 16)
         (λ x. let less : t < 16 = ltb-true _ _ x in
         let short : 2 ^ t ≤ 2 ^ 15 = pow-mono (let l : t ≤ 15 = omega arith in l) in

@@ -2,8 +2,8 @@
 use mathlib.Core.Path.{_≡_, sym, _∙_}
 use native.Mathlib.Omega.{arith}
 use borrow.Author.Needs.{needs}
-use borrow.Author.Tests.{eqb-true, eqb-false, eq-eqb, ne-eqb}
-use Rattle.def_standard.specs.Range.{aheadOf, rangeOf}
+use borrow.Author.Tests.{eq-eqb, ne-eqb}
+use Rattle.def_standard.specs.Range.{rangeOf}
 use Rattle.range.proofs.GridLaws.{begin-on-grid}
 use Rattle.misled.proofs.MisledLaws.{shared-on, shared-off}
 use Rattle.misled.proofs.shared_of.Statement.{statement}
@@ -14,18 +14,14 @@ returns c =
     let r = c .before .before .before in
     let f = r .before .args .f in
     let e : rangeOf f .begin ≡ f .begin = rw (← r .range-of .ensures) (c .if1 .taken) in
-    let z : aheadOf (f .begin) (f .thinning) ≡ 0 =
-    eqb-true _ _ (sym (begin-on-grid f (omega arith)) ∙ eq-eqb _ _ e) in
-    r .range-of .ensures ∙ sym (shared-on f z)
+    r .range-of .ensures ∙ sym (shared-on f (sym (begin-on-grid f (omega arith)) ∙ eq-eqb _ _ e))
 
 returns-2 : tie.Need-returns-2
 returns-2 c =
     let r = c .before .before .before in
     let f = r .before .args .f in
     let n : rangeOf f .begin ≡ f .begin → ⊥ = rw (← r .range-of .ensures) (c .if1 .left) in
-    let z : aheadOf (f .begin) (f .thinning) ≡ 0 → ⊥ =
-    eqb-false _ _ (sym (begin-on-grid f (omega arith)) ∙ ne-eqb _ _ n) in
-    sym (shared-off f z)
+    sym (shared-off f (sym (begin-on-grid f (omega arith)) ∙ ne-eqb _ _ n))
 
 pub shared-of-spec : {M : Type 1} → statement M
 shared-of-spec =
