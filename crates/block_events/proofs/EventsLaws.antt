@@ -29,7 +29,7 @@ use Rattle.utils.proofs.BytesLaws.{length-words32}
 use Rattle.range.specs.Inside.{insideCount}
 use Rattle.range.specs.Steps.{stepOf}
 use Rattle.range.proofs.InsideLaws.{inside-count-le}
-use Rattle.range.proofs.GridLaws.{range-size}
+use Rattle.range.proofs.GridLaws.{range-size, range-thinning}
 use Rattle.ones.proofs.NumbersLaws.{length-numbers}
 use Rattle.packet_receipt_time.specs.Pairs.{stepped}
 use Rattle.packet_receipt_time.proofs.PairsLaws.{pairs-standard, first-all, first-stepped, length-stepped}
@@ -92,7 +92,6 @@ module _ (v : List ℕ) where
       → step ≡ stepOf (fieldsAt v .thinning)
       → n ≡ min ((length v - 12) / 4) (insideCount (rangeOf (fieldsAt v)))
       → stepped step first n (words32 (drop 12 v)) ≡ standardPairs v
-  unfolding rangeOf
   pairs-stepped first step n f s e =
       let g = rangeOf (fieldsAt v) in
       let ts = words32 (drop 12 v) in
@@ -101,7 +100,7 @@ module _ (v : List ℕ) where
       (arith, e, length-words32 (drop 12 v), length-drop 12 v) in
       sym
       (pairs-standard g 0 ts ∙ (rw z (first-all g 0 (insideCount g) ts))
-      ∙ first-stepped g 0 (min (insideCount g) (length ts)) ts ∙ (rw (m, f, s)))
+      ∙ first-stepped g 0 (min (insideCount g) (length ts)) ts ∙ (rw (m, f, s, range-thinning (fieldsAt v))))
 
   pub length-pairs : length (standardPairs v) ≡ min ((length v - 12) / 4) (insideCount (rangeOf (fieldsAt v)))
   length-pairs =

@@ -1,8 +1,8 @@
--- Taken (what a listing call left), Cursor (the number cursor by calls), Grid (thinning from zero), Walk (the reader by moves), Answered (what a
--- block shows, by questions), RoundTrip (a written packet read back), Absent (a summary's absent numbers), FitLaws (a
--- block that is fit to be read), AsStandard (the crate's answers beside the standard's), Careful (a carefully written
--- packet), Marks (words from marks, and a report), NoLostRun (no run of no length is made), Portions (a packet in
--- portions), Text (the text that is printed), Twelve (the examples, passed on).
+-- Taken (what a listing call left), Cursor (the number cursor by calls), Grid (thinning from zero), Walk (the reader
+-- by moves), Answered (what a block shows, by questions), RoundTrip (a written packet read back), Absent (a summary's
+-- absent numbers), FitLaws (a block that is fit to be read), AsStandard (the crate's answers beside the standard's),
+-- Careful (a carefully written packet), Marks (words from marks, and a report), NoLostRun (no run of no length is
+-- made), Portions (a packet in portions), Text (the text that is printed), Twelve (the examples, passed on).
 pub mod Taken
 pub mod Cursor
 pub mod Grid

@@ -1,5 +1,5 @@
--- The sequence numbers that a block reports on (RFC 3611, 4.1; RULES, "Standard reading"). That position p of a block is
--- inside where d + p · 2^T < R, and is then number (begin + d + p · 2^T) mod 65536, is proved (`claims`, Grid).
+-- The sequence numbers that a block reports on (RFC 3611, 4.1; RULES, "Standard reading"). That position p of a block
+-- is inside where d + p · 2^T < R, and then has the number (begin + d + p · 2^T) mod 65536, is proved (`claims`, Grid).
 --     sizeOf       R, how many numbers its range has
 --     aheadOf      d, how far the first number on its grid lies ahead of begin
 --     rangeOf      what a block's fields report on

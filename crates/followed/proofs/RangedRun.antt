@@ -26,6 +26,7 @@ use Rattle.states.specs.declared.Known.{Known}
 use Rattle.states.specs.Steps.{fields, word, time, known, heldOver, fieldsIn, ranged, passed, shownBy}
 use Rattle.states.specs.Steps.{loneOf, opened, typeIn, thinningIn}
 use Rattle.range.specs.Inside.{insideCount}
+use Rattle.range.proofs.GridLaws.{range-thinning}
 use Rattle.followed.specs.Run.{opening, ending}
 use Rattle.followed.proofs.ItemRun.{whole, item-open, item-passed}
 use Rattle.followed.proofs.BehindRun.{ending-more, ending-open, opened-item}
@@ -117,14 +118,14 @@ module _ (a b c d : ℕ) (y : Bytes (header a b c d)) (announced : ℕ) where
     fields-shown rest behind = started type-held length-held (fields-held t x e z)
 
     fields-stand : StandsIn (rangeOf f) (blockLength hd) 0 rn
-    unfolding ranged rangeOf
+    unfolding ranged
     fields-stand =
         let i : insideCount (rangeOf f) ≡ insideCount (rangeOf f) - 0 = omega arith in
         record {
           stands = record {
             number = ap (λ (h : Fields). numberOf (rangeOf h) 0) (fields-held t x e z);
             left = ap (λ (h : Fields). insideCount (rangeOf h)) (fields-held t x e z) ∙ i;
-            thinning = thinning-held;
+            thinning = thinning-held ∙ sym (range-thinning f);
           };
           length = length-held;
         }

@@ -44,9 +44,9 @@ whole-packet : wholeOf packet 5
     ∷ Start 99 4
     ∷ End
     ∷ []
-unfolding pairUp placeOf rleOf rangedOf kindOf standardRule fitness checkOf fieldsOf timeOf valuesIn aheadOf rangeOf offsetOf
-    inside numberOf valuesOf numbersFrom pairsFrom echoesOf numbersShown pairsShown entriesShown kindPart partsFrom
-    has clearRule
+unfolding pairUp placeOf rleOf rangedOf kindOf standardRule fitness checkOf fieldsOf timeOf valuesIn aheadOf rangeOf
+    offsetOf inside numberOf valuesOf numbersFrom pairsFrom echoesOf numbersShown pairsShown entriesShown kindPart
+    partsFrom has clearRule
 whole-packet = refl
 
 -- a summary: duplicates and TTL stand there, lost and jitter do not

@@ -33,8 +33,8 @@ use Rattle.def_jobs.specs.declared.Layout.the-variants.{Careful}
 use Rattle.def_jobs.specs.Jobs.{Job, jobFields, jobWords, jobTimes, isBlockJob}
 use Rattle.def_jobs.specs.Layout.{blocksBytes}
 
--- where begin is on the grid, those of the block's range; else none, since the standard's numbers are all on the grid and
--- the crate's, counted from begin, all off it
+-- where begin is on the grid, those of the block's range; else none, since the standard's numbers are all on the grid
+-- and the crate's, counted from begin, all off it
 unfoldable pub sharedOf : Fields → Range
 sharedOf f =
     cond (onGrid f) (rangeOf f) (record { begin = f .begin; size = 0; thinning = f .thinning })
@@ -49,8 +49,8 @@ abbrev pub outsideAt : Range → ℕ → ℕ → ℕ
 outsideAt g p w = outsideFrom g p 0 (valuesIn w)
 
 -- words whose first position is p: the first one-valued position outside what is shared passes the crate's test, from
--- the number that its word begins with. All before it are listed in both readings, and none behind it in the standard as
--- the crate lists it
+-- the number that its word begins with. All before it are listed in both readings as the same numbers, and it and none
+-- behind it
 unfoldable pub goesOn : Range → ℕ → ℕ → List ℕ → Bool
 goesOn g end p [] = false
 goesOn g end p (w ∷ ws) =

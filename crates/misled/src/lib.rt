@@ -148,8 +148,8 @@ fn stretch(body: &[u8], left: usize, p: u16, at: usize) -> Pass
     Pass { left, p, at }
 }
 
-// Types 1 and 2: whether the crate's list goes on past what is shared. Stretches are passed at once as long as that can be
-// done; the words of one that cannot be, those before `singly`, are gone through one by one.
+// Types 1 and 2: whether the crate's list goes on past what is shared. Stretches are passed at once as long as that can
+// be done; the words of one that cannot be, those before `singly`, are gone through one by one.
 fn goes_on(body: &[u8], g: Range, end: u16) -> bool
     requires { ⌜ Fielded (now body) 2 ⌝ }
     ensures { λ r. ⌜ r ≡ goesOn g end 0 (jobWords (jobOf 1 (now (body .entry)))) ⌝ }

@@ -119,7 +119,8 @@ module _ (begin end t size : ℕ) (begin-fits : begin < 65536) (end-fits : end <
           (λ near. rw (one, near, same, inside-passes p q near, numberOf-on g p q)
           (leads-cons (numberOf g (p + q)) (rw next at (led (suc k)))))
           (λ out. let far : insideCount g ≤ p + q = ltb-false _ _ (sym (inside-count g (p + q)) ∙ out) in
-          rw (one, out, lt-ltb _ _ past, last far, numbersIn-outside g (suc (p + q)) vs (omega arith), numberOf-on g p q)
+          let none = numbersIn-outside g (suc (p + q)) vs (omega arith) in
+          rw (one, out, lt-ltb _ _ past, last far, none, numberOf-on g p q)
           (leads-test (passes (numberOf g p) end (numberOf g (p + q))) _ _)))
           (λ zero. rw (zero, same) (rw next at (led k)))
 

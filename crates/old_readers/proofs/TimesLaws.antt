@@ -91,7 +91,8 @@ same-apart g h (suc m) (suc n) [] [] apart pos = let e : min (suc m) (0 + 0) ≡
 same-apart g h (suc m) zero [] (u ∷ us) apart pos = some m (0 + suc (length us)) (omega arith)
 same-apart g h (suc m) (suc n) [] (u ∷ us) apart pos = some m (0 + suc (length us)) (omega arith)
 same-apart g h (suc m) zero (t ∷ ts) us apart pos = some m (suc (length ts) + length us) (omega arith)
-same-apart g h (suc m) (suc n) (t ∷ ts) us apart pos = rw (ne-eqb _ _ apart) (some m (suc (length ts) + length us) (omega arith))
+same-apart g h (suc m) (suc n) (t ∷ ts) us apart pos =
+    rw (ne-eqb _ _ apart) (some m (suc (length ts) + length us) (omega arith))
 
 -- ---- what the two readings show
 

@@ -1,5 +1,5 @@
--- The range of a block's fields, from the first number on its grid on (def_standard's Range): the one place that unfolds
--- `aheadOf` and `rangeOf`. Assumes nothing.
+-- The range of a block's fields, from the first number on its grid on (def_standard's Range): the one place that
+-- unfolds `aheadOf` and `rangeOf`. Assumes nothing.
 --     ahead-on, ahead-off             how far the grid's first number lies ahead, by where begin stands
 --     grid-sum, sum-on-grid           that number is begin rounded up, and on the grid
 --     range-size, range-begin         what is reported on lies on the circle

@@ -33,130 +33,130 @@ abbrev runs : List ℕ → Course
 runs b = course (shows start b) (faultOf (after start b))
 
 cut-3 : runs (take 3 packet) ≡ courseOf (take 3 packet)
-unfolding pairUp rleOf rangedOf kindOf standardRule valuesIn aheadOf rangeOf offsetOf inside numberOf valuesOf numbersFrom
-    pairsFrom echoesOf headFault blockFault kindEvents blocksFrom courseOf ceilDiv insideCount along start heldOver
-    faultOf nextBlock opened inBlock inPacket ranged passed loneOf shownBy settled settledEvents next eventsAt after
-    shows has clearRule clearWords kindThen
+unfolding pairUp rleOf rangedOf kindOf standardRule valuesIn aheadOf rangeOf offsetOf inside numberOf valuesOf
+    numbersFrom pairsFrom echoesOf headFault blockFault kindEvents blocksFrom courseOf ceilDiv insideCount along start
+    heldOver faultOf nextBlock opened inBlock inPacket ranged passed loneOf shownBy settled settledEvents next eventsAt
+    after shows has clearRule clearWords kindThen
 cut-3 = refl
 
 cut-4 : runs (take 4 packet) ≡ courseOf (take 4 packet)
-unfolding pairUp rleOf rangedOf kindOf standardRule valuesIn aheadOf rangeOf offsetOf inside numberOf valuesOf numbersFrom
-    pairsFrom echoesOf headFault blockFault kindEvents blocksFrom courseOf ceilDiv insideCount along start heldOver
-    faultOf nextBlock opened inBlock inPacket ranged passed loneOf shownBy settled settledEvents next eventsAt after
-    shows has clearRule clearWords kindThen
+unfolding pairUp rleOf rangedOf kindOf standardRule valuesIn aheadOf rangeOf offsetOf inside numberOf valuesOf
+    numbersFrom pairsFrom echoesOf headFault blockFault kindEvents blocksFrom courseOf ceilDiv insideCount along start
+    heldOver faultOf nextBlock opened inBlock inPacket ranged passed loneOf shownBy settled settledEvents next eventsAt
+    after shows has clearRule clearWords kindThen
 cut-4 = refl
 
 cut-8 : runs (take 8 packet) ≡ courseOf (take 8 packet)
-unfolding pairUp rleOf rangedOf kindOf standardRule valuesIn aheadOf rangeOf offsetOf inside numberOf valuesOf numbersFrom
-    pairsFrom echoesOf headFault blockFault kindEvents blocksFrom courseOf ceilDiv insideCount along start heldOver
-    faultOf nextBlock opened inBlock inPacket ranged passed loneOf shownBy settled settledEvents next eventsAt after
-    shows has clearRule clearWords kindThen
+unfolding pairUp rleOf rangedOf kindOf standardRule valuesIn aheadOf rangeOf offsetOf inside numberOf valuesOf
+    numbersFrom pairsFrom echoesOf headFault blockFault kindEvents blocksFrom courseOf ceilDiv insideCount along start
+    heldOver faultOf nextBlock opened inBlock inPacket ranged passed loneOf shownBy settled settledEvents next eventsAt
+    after shows has clearRule clearWords kindThen
 cut-8 = refl
 
 cut-12 : runs (take 12 packet) ≡ courseOf (take 12 packet)
-unfolding pairUp rleOf rangedOf kindOf standardRule valuesIn aheadOf rangeOf offsetOf inside numberOf valuesOf numbersFrom
-    pairsFrom echoesOf headFault blockFault kindEvents blocksFrom courseOf ceilDiv insideCount along start heldOver
-    faultOf nextBlock opened inBlock inPacket ranged passed loneOf shownBy settled settledEvents next eventsAt after
-    shows has clearRule clearWords kindThen
+unfolding pairUp rleOf rangedOf kindOf standardRule valuesIn aheadOf rangeOf offsetOf inside numberOf valuesOf
+    numbersFrom pairsFrom echoesOf headFault blockFault kindEvents blocksFrom courseOf ceilDiv insideCount along start
+    heldOver faultOf nextBlock opened inBlock inPacket ranged passed loneOf shownBy settled settledEvents next eventsAt
+    after shows has clearRule clearWords kindThen
 cut-12 = refl
 
 cut-19 : runs (take 19 packet) ≡ courseOf (take 19 packet)
-unfolding pairUp rleOf rangedOf kindOf standardRule valuesIn aheadOf rangeOf offsetOf inside numberOf valuesOf numbersFrom
-    pairsFrom echoesOf headFault blockFault kindEvents blocksFrom courseOf ceilDiv insideCount along start heldOver
-    faultOf nextBlock opened inBlock inPacket ranged passed loneOf shownBy settled settledEvents next eventsAt after
-    shows has clearRule clearWords kindThen
+unfolding pairUp rleOf rangedOf kindOf standardRule valuesIn aheadOf rangeOf offsetOf inside numberOf valuesOf
+    numbersFrom pairsFrom echoesOf headFault blockFault kindEvents blocksFrom courseOf ceilDiv insideCount along start
+    heldOver faultOf nextBlock opened inBlock inPacket ranged passed loneOf shownBy settled settledEvents next eventsAt
+    after shows has clearRule clearWords kindThen
 cut-19 = refl
 
 cut-20 : runs (take 20 packet) ≡ courseOf (take 20 packet)
-unfolding pairUp rleOf rangedOf kindOf standardRule valuesIn aheadOf rangeOf offsetOf inside numberOf valuesOf numbersFrom
-    pairsFrom echoesOf headFault blockFault kindEvents blocksFrom courseOf ceilDiv insideCount along start heldOver
-    faultOf nextBlock opened inBlock inPacket ranged passed loneOf shownBy settled settledEvents next eventsAt after
-    shows has clearRule clearWords kindThen
+unfolding pairUp rleOf rangedOf kindOf standardRule valuesIn aheadOf rangeOf offsetOf inside numberOf valuesOf
+    numbersFrom pairsFrom echoesOf headFault blockFault kindEvents blocksFrom courseOf ceilDiv insideCount along start
+    heldOver faultOf nextBlock opened inBlock inPacket ranged passed loneOf shownBy settled settledEvents next eventsAt
+    after shows has clearRule clearWords kindThen
 cut-20 = refl
 
 cut-21 : runs (take 21 packet) ≡ courseOf (take 21 packet)
-unfolding pairUp rleOf rangedOf kindOf standardRule valuesIn aheadOf rangeOf offsetOf inside numberOf valuesOf numbersFrom
-    pairsFrom echoesOf headFault blockFault kindEvents blocksFrom courseOf ceilDiv insideCount along start heldOver
-    faultOf nextBlock opened inBlock inPacket ranged passed loneOf shownBy settled settledEvents next eventsAt after
-    shows has clearRule clearWords kindThen
+unfolding pairUp rleOf rangedOf kindOf standardRule valuesIn aheadOf rangeOf offsetOf inside numberOf valuesOf
+    numbersFrom pairsFrom echoesOf headFault blockFault kindEvents blocksFrom courseOf ceilDiv insideCount along start
+    heldOver faultOf nextBlock opened inBlock inPacket ranged passed loneOf shownBy settled settledEvents next eventsAt
+    after shows has clearRule clearWords kindThen
 cut-21 = refl
 
 cut-22 : runs (take 22 packet) ≡ courseOf (take 22 packet)
-unfolding pairUp rleOf rangedOf kindOf standardRule valuesIn aheadOf rangeOf offsetOf inside numberOf valuesOf numbersFrom
-    pairsFrom echoesOf headFault blockFault kindEvents blocksFrom courseOf ceilDiv insideCount along start heldOver
-    faultOf nextBlock opened inBlock inPacket ranged passed loneOf shownBy settled settledEvents next eventsAt after
-    shows has clearRule clearWords kindThen
+unfolding pairUp rleOf rangedOf kindOf standardRule valuesIn aheadOf rangeOf offsetOf inside numberOf valuesOf
+    numbersFrom pairsFrom echoesOf headFault blockFault kindEvents blocksFrom courseOf ceilDiv insideCount along start
+    heldOver faultOf nextBlock opened inBlock inPacket ranged passed loneOf shownBy settled settledEvents next eventsAt
+    after shows has clearRule clearWords kindThen
 cut-22 = refl
 
 cut-24 : runs (take 24 packet) ≡ courseOf (take 24 packet)
-unfolding pairUp rleOf rangedOf kindOf standardRule valuesIn aheadOf rangeOf offsetOf inside numberOf valuesOf numbersFrom
-    pairsFrom echoesOf headFault blockFault kindEvents blocksFrom courseOf ceilDiv insideCount along start heldOver
-    faultOf nextBlock opened inBlock inPacket ranged passed loneOf shownBy settled settledEvents next eventsAt after
-    shows has clearRule clearWords kindThen
+unfolding pairUp rleOf rangedOf kindOf standardRule valuesIn aheadOf rangeOf offsetOf inside numberOf valuesOf
+    numbersFrom pairsFrom echoesOf headFault blockFault kindEvents blocksFrom courseOf ceilDiv insideCount along start
+    heldOver faultOf nextBlock opened inBlock inPacket ranged passed loneOf shownBy settled settledEvents next eventsAt
+    after shows has clearRule clearWords kindThen
 cut-24 = refl
 
 cut-36 : runs (take 36 packet) ≡ courseOf (take 36 packet)
-unfolding pairUp rleOf rangedOf kindOf standardRule valuesIn aheadOf rangeOf offsetOf inside numberOf valuesOf numbersFrom
-    pairsFrom echoesOf headFault blockFault kindEvents blocksFrom courseOf ceilDiv insideCount along start heldOver
-    faultOf nextBlock opened inBlock inPacket ranged passed loneOf shownBy settled settledEvents next eventsAt after
-    shows has clearRule clearWords kindThen
+unfolding pairUp rleOf rangedOf kindOf standardRule valuesIn aheadOf rangeOf offsetOf inside numberOf valuesOf
+    numbersFrom pairsFrom echoesOf headFault blockFault kindEvents blocksFrom courseOf ceilDiv insideCount along start
+    heldOver faultOf nextBlock opened inBlock inPacket ranged passed loneOf shownBy settled settledEvents next eventsAt
+    after shows has clearRule clearWords kindThen
 cut-36 = refl
 
 cut-40 : runs (take 40 packet) ≡ courseOf (take 40 packet)
-unfolding pairUp rleOf rangedOf kindOf standardRule valuesIn aheadOf rangeOf offsetOf inside numberOf valuesOf numbersFrom
-    pairsFrom echoesOf headFault blockFault kindEvents blocksFrom courseOf ceilDiv insideCount along start heldOver
-    faultOf nextBlock opened inBlock inPacket ranged passed loneOf shownBy settled settledEvents next eventsAt after
-    shows has clearRule clearWords kindThen
+unfolding pairUp rleOf rangedOf kindOf standardRule valuesIn aheadOf rangeOf offsetOf inside numberOf valuesOf
+    numbersFrom pairsFrom echoesOf headFault blockFault kindEvents blocksFrom courseOf ceilDiv insideCount along start
+    heldOver faultOf nextBlock opened inBlock inPacket ranged passed loneOf shownBy settled settledEvents next eventsAt
+    after shows has clearRule clearWords kindThen
 cut-40 = refl
 
 cut-44 : runs (take 44 packet) ≡ courseOf (take 44 packet)
-unfolding pairUp rleOf rangedOf kindOf standardRule valuesIn aheadOf rangeOf offsetOf inside numberOf valuesOf numbersFrom
-    pairsFrom echoesOf headFault blockFault kindEvents blocksFrom courseOf ceilDiv insideCount along start heldOver
-    faultOf nextBlock opened inBlock inPacket ranged passed loneOf shownBy settled settledEvents next eventsAt after
-    shows has clearRule clearWords kindThen
+unfolding pairUp rleOf rangedOf kindOf standardRule valuesIn aheadOf rangeOf offsetOf inside numberOf valuesOf
+    numbersFrom pairsFrom echoesOf headFault blockFault kindEvents blocksFrom courseOf ceilDiv insideCount along start
+    heldOver faultOf nextBlock opened inBlock inPacket ranged passed loneOf shownBy settled settledEvents next eventsAt
+    after shows has clearRule clearWords kindThen
 cut-44 = refl
 
 cut-52 : runs (take 52 packet) ≡ courseOf (take 52 packet)
-unfolding pairUp rleOf rangedOf kindOf standardRule valuesIn aheadOf rangeOf offsetOf inside numberOf valuesOf numbersFrom
-    pairsFrom echoesOf headFault blockFault kindEvents blocksFrom courseOf ceilDiv insideCount along start heldOver
-    faultOf nextBlock opened inBlock inPacket ranged passed loneOf shownBy settled settledEvents next eventsAt after
-    shows has clearRule clearWords kindThen
+unfolding pairUp rleOf rangedOf kindOf standardRule valuesIn aheadOf rangeOf offsetOf inside numberOf valuesOf
+    numbersFrom pairsFrom echoesOf headFault blockFault kindEvents blocksFrom courseOf ceilDiv insideCount along start
+    heldOver faultOf nextBlock opened inBlock inPacket ranged passed loneOf shownBy settled settledEvents next eventsAt
+    after shows has clearRule clearWords kindThen
 cut-52 = refl
 
 cut-60 : runs (take 60 packet) ≡ courseOf (take 60 packet)
-unfolding pairUp rleOf rangedOf kindOf standardRule valuesIn aheadOf rangeOf offsetOf inside numberOf valuesOf numbersFrom
-    pairsFrom echoesOf headFault blockFault kindEvents blocksFrom courseOf ceilDiv insideCount along start heldOver
-    faultOf nextBlock opened inBlock inPacket ranged passed loneOf shownBy settled settledEvents next eventsAt after
-    shows has clearRule clearWords kindThen
+unfolding pairUp rleOf rangedOf kindOf standardRule valuesIn aheadOf rangeOf offsetOf inside numberOf valuesOf
+    numbersFrom pairsFrom echoesOf headFault blockFault kindEvents blocksFrom courseOf ceilDiv insideCount along start
+    heldOver faultOf nextBlock opened inBlock inPacket ranged passed loneOf shownBy settled settledEvents next eventsAt
+    after shows has clearRule clearWords kindThen
 cut-60 = refl
 
 cut-72 : runs (take 72 packet) ≡ courseOf (take 72 packet)
-unfolding pairUp rleOf rangedOf kindOf standardRule valuesIn aheadOf rangeOf offsetOf inside numberOf valuesOf numbersFrom
-    pairsFrom echoesOf headFault blockFault kindEvents blocksFrom courseOf ceilDiv insideCount along start heldOver
-    faultOf nextBlock opened inBlock inPacket ranged passed loneOf shownBy settled settledEvents next eventsAt after
-    shows has clearRule clearWords kindThen
+unfolding pairUp rleOf rangedOf kindOf standardRule valuesIn aheadOf rangeOf offsetOf inside numberOf valuesOf
+    numbersFrom pairsFrom echoesOf headFault blockFault kindEvents blocksFrom courseOf ceilDiv insideCount along start
+    heldOver faultOf nextBlock opened inBlock inPacket ranged passed loneOf shownBy settled settledEvents next eventsAt
+    after shows has clearRule clearWords kindThen
 cut-72 = refl
 
 cut-76 : runs (take 76 packet) ≡ courseOf (take 76 packet)
-unfolding pairUp rleOf rangedOf kindOf standardRule valuesIn aheadOf rangeOf offsetOf inside numberOf valuesOf numbersFrom
-    pairsFrom echoesOf headFault blockFault kindEvents blocksFrom courseOf ceilDiv insideCount along start heldOver
-    faultOf nextBlock opened inBlock inPacket ranged passed loneOf shownBy settled settledEvents next eventsAt after
-    shows has clearRule clearWords kindThen
+unfolding pairUp rleOf rangedOf kindOf standardRule valuesIn aheadOf rangeOf offsetOf inside numberOf valuesOf
+    numbersFrom pairsFrom echoesOf headFault blockFault kindEvents blocksFrom courseOf ceilDiv insideCount along start
+    heldOver faultOf nextBlock opened inBlock inPacket ranged passed loneOf shownBy settled settledEvents next eventsAt
+    after shows has clearRule clearWords kindThen
 cut-76 = refl
 
 whole : runs packet ≡ courseOf packet
-unfolding pairUp rleOf rangedOf kindOf standardRule valuesIn aheadOf rangeOf offsetOf inside numberOf valuesOf numbersFrom
-    pairsFrom echoesOf headFault blockFault kindEvents blocksFrom courseOf ceilDiv insideCount along start heldOver
-    faultOf nextBlock opened inBlock inPacket ranged passed loneOf shownBy settled settledEvents next eventsAt after
-    shows has clearRule clearWords kindThen
+unfolding pairUp rleOf rangedOf kindOf standardRule valuesIn aheadOf rangeOf offsetOf inside numberOf valuesOf
+    numbersFrom pairsFrom echoesOf headFault blockFault kindEvents blocksFrom courseOf ceilDiv insideCount along start
+    heldOver faultOf nextBlock opened inBlock inPacket ranged passed loneOf shownBy settled settledEvents next eventsAt
+    after shows has clearRule clearWords kindThen
 whole = refl
 
 -- a header of version 1: it stays at hand, and takes no byte more
 stays : after start (64 ∷ 207 ∷ 0 ∷ 1 ∷ 9 ∷ []) ≡ after start (64 ∷ 207 ∷ 0 ∷ 1 ∷ [])
-unfolding pairUp rleOf rangedOf kindOf standardRule valuesIn aheadOf rangeOf offsetOf inside numberOf valuesOf numbersFrom
-    pairsFrom echoesOf headFault blockFault kindEvents blocksFrom courseOf ceilDiv insideCount along start heldOver
-    faultOf nextBlock opened inBlock inPacket ranged passed loneOf shownBy settled settledEvents next eventsAt after
-    shows has clearRule clearWords kindThen
+unfolding pairUp rleOf rangedOf kindOf standardRule valuesIn aheadOf rangeOf offsetOf inside numberOf valuesOf
+    numbersFrom pairsFrom echoesOf headFault blockFault kindEvents blocksFrom courseOf ceilDiv insideCount along start
+    heldOver faultOf nextBlock opened inBlock inPacket ranged passed loneOf shownBy settled settledEvents next eventsAt
+    after shows has clearRule clearWords kindThen
 stays = refl
 
 -- an item of which no byte is missing takes none; where no length was announced, any byte behind the header is too many
@@ -223,32 +223,32 @@ lost =
     ∷ 0 ∷ []
 
 lost-23 : runs (take 23 lost) ≡ courseOf (take 23 lost)
-unfolding pairUp rleOf rangedOf kindOf standardRule valuesIn aheadOf rangeOf offsetOf inside numberOf valuesOf numbersFrom
-    pairsFrom echoesOf headFault blockFault kindEvents blocksFrom courseOf ceilDiv insideCount along start heldOver
-    faultOf nextBlock opened inBlock inPacket ranged passed loneOf shownBy settled settledEvents next eventsAt after
-    shows has clearRule clearWords kindThen
+unfolding pairUp rleOf rangedOf kindOf standardRule valuesIn aheadOf rangeOf offsetOf inside numberOf valuesOf
+    numbersFrom pairsFrom echoesOf headFault blockFault kindEvents blocksFrom courseOf ceilDiv insideCount along start
+    heldOver faultOf nextBlock opened inBlock inPacket ranged passed loneOf shownBy settled settledEvents next eventsAt
+    after shows has clearRule clearWords kindThen
 lost-23 = refl
 
 lost-24 : runs (take 24 lost) ≡ courseOf (take 24 lost)
-unfolding pairUp rleOf rangedOf kindOf standardRule valuesIn aheadOf rangeOf offsetOf inside numberOf valuesOf numbersFrom
-    pairsFrom echoesOf headFault blockFault kindEvents blocksFrom courseOf ceilDiv insideCount along start heldOver
-    faultOf nextBlock opened inBlock inPacket ranged passed loneOf shownBy settled settledEvents next eventsAt after
-    shows has clearRule clearWords kindThen
+unfolding pairUp rleOf rangedOf kindOf standardRule valuesIn aheadOf rangeOf offsetOf inside numberOf valuesOf
+    numbersFrom pairsFrom echoesOf headFault blockFault kindEvents blocksFrom courseOf ceilDiv insideCount along start
+    heldOver faultOf nextBlock opened inBlock inPacket ranged passed loneOf shownBy settled settledEvents next eventsAt
+    after shows has clearRule clearWords kindThen
 lost-24 = refl
 
 lost-whole : runs lost ≡ courseOf lost
-unfolding pairUp rleOf rangedOf kindOf standardRule valuesIn aheadOf rangeOf offsetOf inside numberOf valuesOf numbersFrom
-    pairsFrom echoesOf headFault blockFault kindEvents blocksFrom courseOf ceilDiv insideCount along start heldOver
-    faultOf nextBlock opened inBlock inPacket ranged passed loneOf shownBy settled settledEvents next eventsAt after
-    shows has clearRule clearWords kindThen
+unfolding pairUp rleOf rangedOf kindOf standardRule valuesIn aheadOf rangeOf offsetOf inside numberOf valuesOf
+    numbersFrom pairsFrom echoesOf headFault blockFault kindEvents blocksFrom courseOf ceilDiv insideCount along start
+    heldOver faultOf nextBlock opened inBlock inPacket ranged passed loneOf shownBy settled settledEvents next eventsAt
+    after shows has clearRule clearWords kindThen
 lost-whole = refl
 
 lost-course : courseOf lost
     ≡ course
     (Header 28 1 ∷ RangedStart 1 20 (record { ssrc = 7; begin = 10; end = 20; thinning = 0 }) ∷ Number 10 ∷ Number 11
     ∷ []) (Unfit (BadBlockLength 12 20))
-unfolding pairUp rleOf rangedOf kindOf standardRule valuesIn aheadOf rangeOf offsetOf inside numberOf valuesOf numbersFrom
-    pairsFrom echoesOf headFault blockFault kindEvents blocksFrom courseOf ceilDiv insideCount along start heldOver
-    faultOf nextBlock opened inBlock inPacket ranged passed loneOf shownBy settled settledEvents next eventsAt after
-    shows has clearRule clearWords kindThen
+unfolding pairUp rleOf rangedOf kindOf standardRule valuesIn aheadOf rangeOf offsetOf inside numberOf valuesOf
+    numbersFrom pairsFrom echoesOf headFault blockFault kindEvents blocksFrom courseOf ceilDiv insideCount along start
+    heldOver faultOf nextBlock opened inBlock inPacket ranged passed loneOf shownBy settled settledEvents next eventsAt
+    after shows has clearRule clearWords kindThen
 lost-course = refl

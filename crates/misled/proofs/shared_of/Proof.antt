@@ -1,4 +1,4 @@
--- `misled::shared_of` meets its contract: the block's range begins with begin where that is on the grid, and there only.
+-- `misled::shared_of` meets its contract: the block's range begins with begin where that is on the grid, else not.
 use mathlib.Core.Path.{_≡_, sym, _∙_}
 use native.Mathlib.Omega.{arith}
 use borrow.Author.Needs.{needs}
