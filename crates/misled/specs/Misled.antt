@@ -48,9 +48,8 @@ outsideFrom g p q (v ∷ vs) = cond (eqb v 1 && not (inside g (p + q))) q (outsi
 abbrev pub outsideAt : Range → ℕ → ℕ → ℕ
 outsideAt g p w = outsideFrom g p 0 (valuesIn w)
 
--- words whose first position is p: the first one-valued position outside what is shared passes the crate's test, from
--- the number that its word begins with. All before it are listed in both readings as the same numbers, and it and none
--- behind it
+-- words whose first position is p: the first one-valued position that is not shared passes the crate's test, from the
+-- number that its word begins with. All before it are listed in both readings, as the same numbers
 unfoldable pub goesOn : Range → ℕ → ℕ → List ℕ → Bool
 goesOn g end p [] = false
 goesOn g end p (w ∷ ws) =

@@ -8,8 +8,8 @@
 --     range-on-grid, begin-on-grid    where begin is on the grid the range is the crate's, and there only
 --     whole-on-grid                   by thinning 0 it always is
 use Prim.Native.Nat.{ℕ, zero, suc, _+_, _*_, _-_, _/_, _%_, _^_, _≤_, _<_, min}
-use mathlib.Core.Path.{_≡_, refl, sym, ap, ap₂, _∙_}
-use mathlib.Core.Bool.{true, false}
+use mathlib.Core.Path.{_≡_, refl, sym, ap, _∙_}
+use mathlib.Core.Bool.{true}
 use native.Mathlib.Nat.{mod-eq-of-lt, mod-lt, mod-self, div-add-mod, mul-mod-left, mod-add-mod, add-mul-mod-self-right}
 use native.Mathlib.Nat.{sub-zero, mod-one}
 use native.Mathlib.Omega.{arith}
@@ -31,6 +31,11 @@ use Rattle.range.proofs.InsideLaws.{ceil-below, ceil-above, ceil-far}
 ceil-reach : (a m : ℕ) → 0 < m → (q : ℕ) → q * m ≤ a → q ≤ ceilDiv a m
 ceil-reach a m h zero k = omega arith
 ceil-reach a m h (suc q) k = ceil-below a m h q (omega arith)
+
+-- what a number leaves by a step that divides the circle, it leaves there too
+mod-circle : (x t : ℕ) → t ≤ 16 → x % circle % 2 ^ t ≡ x % 2 ^ t
+mod-circle x t h =
+    let e : 16 ≡ 16 - t + t = omega arith in ap (λ (n : ℕ). x % 2 ^ n % 2 ^ t) e ∙ mod-mod-pow x (16 - t) t
 
 -- ---- how far ahead
 
@@ -114,18 +119,20 @@ module _ (b t : ℕ) (h : b < 65536) (k : 17 ≤ t) where
       let far = far-sum b t h (omega arith) n in
       omega arith)
 
-module _ (b t : ℕ) (h : b < 65536) where
-  pub near-begin : (b + aheadOf b (min t 17)) % circle ≡ (b + aheadOf b t) % circle
-  near-begin =
-      either (ltb t 17)
-      (λ u. let l : t < 17 = ltb-true _ _ u in rw (let e : min t 17 ≡ t = omega arith in e))
-      (λ v. let l : 17 ≤ t = ltb-false _ _ v in rw (let e : min t 17 ≡ 17 = omega arith in e) (far-begin b t h l))
+-- what holds by t, and by 17 where t is larger, holds by the lesser of the two
+by-lesser : (P : ℕ → Type 0) (t : ℕ) → P t → (17 ≤ t → P 17) → P (min t 17)
+by-lesser P t a b =
+    either (ltb t 17)
+    (λ u. let l : t < 17 = ltb-true _ _ u in rw (let e : min t 17 ≡ t = omega arith in e) a)
+    (λ v. let l : 17 ≤ t = ltb-false _ _ v in rw (let e : min t 17 ≡ 17 = omega arith in e) (b l))
 
-  pub near-size : (e : ℕ) → sizeOf b e - aheadOf b (min t 17) ≡ sizeOf b e - aheadOf b t
-  near-size x =
-      either (ltb t 17)
-      (λ u. let l : t < 17 = ltb-true _ _ u in rw (let e : min t 17 ≡ t = omega arith in e))
-      (λ v. let l : 17 ≤ t = ltb-false _ _ v in rw (let e : min t 17 ≡ 17 = omega arith in e) (far-size b t h l x))
+module _ (b t : ℕ) (h : b < 65536) where
+  near-begin : (b + aheadOf b (min t 17)) % circle ≡ (b + aheadOf b t) % circle
+  near-begin = by-lesser (λ (n : ℕ). (b + aheadOf b n) % circle ≡ (b + aheadOf b t) % circle) t refl (far-begin b t h)
+
+  near-size : (e : ℕ) → sizeOf b e - aheadOf b (min t 17) ≡ sizeOf b e - aheadOf b t
+  near-size e =
+      by-lesser (λ (n : ℕ). sizeOf b e - aheadOf b n ≡ sizeOf b e - aheadOf b t) t refl (λ l. far-size b t h l e)
 
 -- ---- on the grid
 
@@ -135,9 +142,7 @@ pub number-grid : (g : Range) (p : ℕ) → g .thinning ≤ 16
 unfolding numberOf offsetOf
 number-grid g p h =
     let t = g .thinning in
-    let x = g .begin + p * 2 ^ t in
-    let e : 16 ≡ 16 - t + t = omega arith in
-    ap (λ (n : ℕ). x % 2 ^ n % 2 ^ t) e ∙ mod-mod-pow x (16 - t) t ∙ add-mul-mod-self-right (g .begin) p (2 ^ t)
+    mod-circle (g .begin + p * 2 ^ t) t h ∙ add-mul-mod-self-right (g .begin) p (2 ^ t)
 
 module _ (f : Fields) where
   abbrev b : ℕ
@@ -191,12 +196,7 @@ module _ (f : Fields) where
   -- a block's numbers are on its grid
   pub listed-grid : (p : ℕ) → f .thinning ≤ 16 → numberOf (rangeOf f) p % 2 ^ (f .thinning) ≡ 0
   unfolding rangeOf
-  listed-grid p h =
-      let e : 16 ≡ 16 - t + t = omega arith in
-      number-grid (rangeOf f) p h
-      ∙ ap (λ (n : ℕ). (b + d) % 2 ^ n % 2 ^ t) e
-      ∙ mod-mod-pow (b + d) (16 - t) t
-      ∙ sum-on-grid b t
+  listed-grid p h = number-grid (rangeOf f) p h ∙ mod-circle (b + d) t h ∙ sum-on-grid b t
 
   -- no more of them than the crate counts
   pub inside-fewer : insideCount (rangeOf f) ≤ insideCount (fromBegin f)
@@ -260,10 +260,8 @@ size-moved b e d h k l =
 moved-on-grid : (b t : ℕ) → b < 65536 → aheadOf ((b + aheadOf b t) % circle) t ≡ 0
 moved-on-grid b t h =
     either (leb t 16)
-    (λ u. let k : t ≤ 16 = leb-true _ _ u in
-    let e : 16 ≡ 16 - t + t = omega arith in
-    let x = b + aheadOf b t in
-    ahead-on (x % circle) t (ap (λ (n : ℕ). x % 2 ^ n % 2 ^ t) e ∙ mod-mod-pow x (16 - t) t ∙ sum-on-grid b t))
+    (λ u. let x = b + aheadOf b t in
+    ahead-on (x % circle) t (mod-circle x t (leb-true _ _ u) ∙ sum-on-grid b t))
     (λ v. let k : 16 < t = leb-false _ _ v in
     let z : (b + aheadOf b t) % circle ≡ 0 = far-first b t h (omega arith) in
     rw z (far-zero 0 t (omega arith) (omega arith) refl))
