@@ -2,6 +2,8 @@
 // 13): the library's function is asked, and the answer's line or the refusal is added to the buffer. A packet and a
 // chunk word are made in memory of so much room, lent with a pattern in it. Each function promises that it has added
 // exactly def_probe's line.
+#![tactic(auto)]
+
 ghost use Rattle.std.specs.Prelude.{min, length};
 ghost use Rattle.def_refusals.specs.Answers.{Listed};
 ghost use Rattle.def_wire.specs.Packet.{count_of, locate};

@@ -2,6 +2,8 @@
 // much room is lent with a pattern in it, the library's function is asked, and the list's line or the refusal is added
 // to the buffer. Each function promises that it has added exactly def_probe's line: that `spoilt` is never printed is
 // part of its proof.
+#![tactic(auto)]
+
 ghost use Rattle.std.specs.Prelude.{min, ◌≡◌, cond, false, length};
 ghost use Rattle.def_questions.specs.Packets.{pairs_asked, entries_asked};
 ghost use Rattle.def_questions.specs.ByNumber.{numbers_by, words_by};

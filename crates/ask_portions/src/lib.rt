@@ -1,6 +1,8 @@
 // What xrprobe answers of a packet in portions (README, "xrprobe", kind 12): one call for each size, each from the
 // first byte that no call has taken on, and one more for what is then left. For each call its events' lines are added
 // to the buffer, then what it took or its refusal. `calls` promises that it has added exactly def_probe's text.
+#![tactic(auto)]
+
 ghost use Rattle.std.specs.Prelude.{◌<◌, []};
 ghost use Rattle.def_portions.specs.Lists.{room_in};
 ghost use Rattle.def_text.specs.Buffer.{Added};

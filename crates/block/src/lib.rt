@@ -1,6 +1,8 @@
 // One block: whether it is of the asked type and fit to be read, its fields and its time, in both readings.
 // Port of: xr/mod.rs XrBlock::parse_into; the parse functions and accessors of rle.rs, packet_receipt_time.rs,
 // receiver_reference_time.rs, dlrr.rs.
+#![tactic(auto)]
+
 ghost use Rattle.std.specs.Prelude.{◌≡◌, ◌≤◌, leb, length};
 ghost use Rattle.def_refusals.specs.Answers.{then_check};
 ghost use Rattle.def_wire.specs.Block.{type_of, block_length, words_at, clear_rule, check_of, is_cut, fields_at, fields_of};

@@ -1,5 +1,7 @@
 // The events of a block whose bytes are all there, counted and stored at once, each list by a loop with nothing else
 // in it (RULES, "Packets in portions").
+#![tactic(auto)]
+
 ghost use Rattle.std.specs.Prelude.{◌≡◌, ◌+◌, ◌≤◌, ◌∷◌, map, length, drop};
 ghost use Rattle.def_wire.specs.Bytes.{words16, words32};
 ghost use Rattle.def_wire.specs.Block.{type_of, block_length, kind_of};

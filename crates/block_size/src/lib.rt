@@ -1,5 +1,7 @@
 // The block that a record asks for: whether the record is good, and how many bytes its block has (RULES, "Job lists and
 // writing").
+#![tactic(auto)]
+
 ghost use Rattle.std.specs.Prelude.{◌≡◌, ◌≤◌, length, drop};
 ghost use Rattle.def_jobs.specs.Jobs.{low16, has_fields, is_flags, has_sums, is_block_job};
 ghost use Rattle.def_jobs.specs.Layout.{zeros_behind, block_bytes};

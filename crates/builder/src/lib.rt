@@ -1,6 +1,8 @@
 // The bytes of one block into a lent buffer (RFC 3611, 4; RULES, "Job lists and writing"). Port of: the
 // `write_into_unchecked` of rle.rs, packet_receipt_time.rs, receiver_reference_time.rs and dlrr.rs; differs: a block's
 // numbers come from a record's little-endian body.
+#![tactic(auto)]
+
 ghost use Rattle.std.specs.Prelude.{◌≡◌, true, ◌+◌, ◌*◌, ◌≤◌, length, replicate};
 ghost use Rattle.laws.specs.Stores.{Wrote};
 ghost use Rattle.def_jobs.specs.Jobs.{is_block_job};

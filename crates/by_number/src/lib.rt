@@ -1,6 +1,8 @@
 // The questions of a packet and a block's index with the asked type given by a number, as callers in other languages
 // and test programs ask. A number that a question does not serve is 10 with the block's own type, in 10's place
 // (RULES, "Refusal numbers").
+#![tactic(auto)]
+
 ghost use Rattle.std.specs.Prelude.{◌≡◌, length};
 ghost use Rattle.def_refusals.specs.Answers.{Listed, refused};
 ghost use Rattle.def_wire.specs.Packet.{view_of};

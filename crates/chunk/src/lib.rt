@@ -1,5 +1,7 @@
 // One chunk word, taken apart and built by shifts and masks: kind bit, run bit, 14-bit length, place in the vector,
 // most significant first (RFC 3611, 4.1.1 to 4.1.3; RULES, "Packet and blocks"). Port of: rle.rs RleChunk.
+#![tactic(auto)]
+
 ghost use Rattle.std.specs.Prelude.{◌≡◌, ◌+◌, ◌-◌, ◌/◌, ◌%◌, ◌^◌, ◌≤◌, length};
 ghost use Rattle.def_refusals.specs.Answers.{Listed};
 ghost use Rattle.def_standard.specs.Chunks.{covers_of, value_of, chunk_of, word_of, word_bytes};

@@ -1,5 +1,7 @@
 // The standard number cursor (RULES, "Views, cursors and the dump"): a call takes a budget of steps from a place of a
 // block's words, lists that stretch's numbers, and reports how many steps it took and where the next call goes on.
+#![tactic(auto)]
+
 ghost use Rattle.std.specs.Prelude.{◌≡◌, true, ◌+◌, ◌-◌, ◌≤◌, ◌<◌, min, length, get_or};
 ghost use Rattle.def_wire.specs.Bytes.{words16};
 ghost use Rattle.def_standard.specs.Range.{circle};

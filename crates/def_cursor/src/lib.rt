@@ -1,8 +1,10 @@
 // The types of the standard number cursor. Definitions only: see specs/.
+#![tactic(auto)]
+
 use def_refusals::Refusal;
 
 // A place in a block's words: which word, which place of it, and the position that it stands for.
-#[derive(Drop)]
+#[derive(Clone, Copy)]
 pub struct Cursor {
     pub word: usize,
     pub place: usize,
@@ -11,14 +13,14 @@ pub struct Cursor {
 
 // What a call with a budget of steps gives: the next cursor, the steps that were taken, and how many numbers were
 // listed.
-#[derive(Drop)]
+#[derive(Clone, Copy)]
 pub struct Stretch {
     pub next: Cursor,
     pub taken: usize,
     pub listed: usize,
 }
 
-#[derive(Drop)]
+#[derive(Clone, Copy)]
 pub enum Advanced {
     Moved(Stretch),
     Stuck(Refusal),

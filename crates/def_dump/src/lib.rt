@@ -1,1 +1,2 @@
 // What the programs print: the lines, and the dump of a packet. Definitions only: see specs/.
+#![tactic(auto)]

@@ -1,1 +1,2 @@
 // Chunk words from heard marks, and reports made of them. Definitions only: see specs/.
+#![tactic(auto)]

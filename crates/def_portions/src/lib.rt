@@ -1,8 +1,10 @@
 // What a packet that comes in portions shows (RULES, "Packets in portions"). Definitions only: see specs/.
+#![tactic(auto)]
+
 use def_standard::{Echo, Receipt};
 use def_wire::{Fields, LongTime, Summary};
 
-#[derive(Drop)]
+#[derive(Clone, Copy)]
 pub enum Event {
     // the length that the header announces, the sender's SSRC
     Header(u32, u32),

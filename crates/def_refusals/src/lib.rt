@@ -1,8 +1,9 @@
 // Why a question is refused, and the answer of a call that counts, lists or writes.
 // Definitions only: specs/Numbers.antt gives each case RULES' number and its two values.
+#![tactic(auto)]
 
 // One case for each row of RULES' table, in the table's order.
-#[derive(Drop)]
+#[derive(Clone, Copy)]
 pub enum Refusal {
     // 1: least, actual
     TooShort(usize, usize),
@@ -45,7 +46,7 @@ pub enum Refusal {
 }
 
 // RULES' number and two values.
-#[derive(Drop)]
+#[derive(Clone, Copy)]
 pub struct Numbered {
     pub number: u8,
     pub first: usize,
@@ -53,14 +54,14 @@ pub struct Numbered {
 }
 
 // A count (of blocks, of items listed, of bytes written), or a refusal.
-#[derive(Drop)]
+#[derive(Clone, Copy)]
 pub enum Answer {
     Done(usize),
     Refused(Refusal),
 }
 
 // Whether something is fit to be read.
-#[derive(Drop)]
+#[derive(Clone, Copy)]
 pub enum Checked {
     Fine,
     Unfit(Refusal),

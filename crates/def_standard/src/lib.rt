@@ -1,9 +1,11 @@
 // The types that the definitions of the standard reading speak of. Definitions only: see specs/.
+#![tactic(auto)]
+
 use def_refusals::Refusal;
 use def_wire::{ReceiptTime, ShortTime};
 
 // A chunk word's kind (RFC 3611, 4.1.1 to 4.1.3). Port of: rle.rs RleChunk.
-#[derive(Drop)]
+#[derive(Clone, Copy)]
 pub enum Chunk {
     Null,
     // a run of zeros and its length
@@ -15,14 +17,14 @@ pub enum Chunk {
 }
 
 // A chunk word that was made, or 13.
-#[derive(Drop)]
+#[derive(Clone, Copy)]
 pub enum MadeWord {
     Word(u16),
     Unmade(Refusal),
 }
 
 // The sequence numbers that a block reports on.
-#[derive(Drop)]
+#[derive(Clone, Copy)]
 pub struct Range {
     // the first of them, position 0
     pub begin: u16,
@@ -33,14 +35,14 @@ pub struct Range {
 }
 
 // A sequence number and when its packet came.
-#[derive(Drop)]
+#[derive(Clone, Copy)]
 pub struct Receipt {
     pub number: u16,
     pub time: ReceiptTime,
 }
 
 // A clock echo: whose, the middle bits of its last reference time, and how long ago that came.
-#[derive(Drop)]
+#[derive(Clone, Copy)]
 pub struct Echo {
     pub ssrc: u32,
     pub last: ShortTime,

@@ -1,8 +1,10 @@
 // The types that the definitions of the wire format speak of. Definitions only: see specs/.
+#![tactic(auto)]
+
 use def_refusals::Refusal;
 
 // Which of the two readings is asked.
-#[derive(Drop)]
+#[derive(Clone, Copy)]
 pub enum Reading {
     // RFC 3611, as RULES states it
     Standard,
@@ -11,28 +13,28 @@ pub enum Reading {
 }
 
 // Where a block's view lies in the packet: its first byte and how many bytes it has.
-#[derive(Drop)]
+#[derive(Clone, Copy)]
 pub enum Located {
     At(usize, usize),
     Missing(Refusal),
 }
 
 // Types 1 and 2, run-length chunk words (RFC 3611, 4.1 and 4.2): what numbers, chunk words and the cursor are asked of.
-#[derive(Drop)]
+#[derive(Clone, Copy)]
 pub enum Rle {
     Loss,
     Duplicate,
 }
 
 // Types 1 to 3, which report on a range of sequence numbers (RFC 3611, 4.1 to 4.3): what fields are asked of.
-#[derive(Drop)]
+#[derive(Clone, Copy)]
 pub enum Ranged {
     Chunks(Rle),
     Times,
 }
 
 // Types 1 to 6, which have a length rule. Other types show type and length only.
-#[derive(Drop)]
+#[derive(Clone, Copy)]
 pub enum Kind {
     Spans(Ranged),
     Clock,
@@ -41,26 +43,26 @@ pub enum Kind {
 }
 
 // What a number asks for, where it is the type number of one.
-#[derive(Drop)]
+#[derive(Clone, Copy)]
 pub enum RleOr {
     AnRle(Rle),
     NoRle,
 }
 
-#[derive(Drop)]
+#[derive(Clone, Copy)]
 pub enum RangedOr {
     ARange(Ranged),
     NoRange,
 }
 
-#[derive(Drop)]
+#[derive(Clone, Copy)]
 pub enum KindOr {
     AKind(Kind),
     NoKind,
 }
 
 // What blocks of types 1, 2 and 3 begin with (RFC 3611, 4.1 to 4.3).
-#[derive(Drop)]
+#[derive(Clone, Copy)]
 pub struct Fields {
     pub ssrc: u32,
     pub begin: u16,
@@ -68,25 +70,25 @@ pub struct Fields {
     pub thinning: u8,
 }
 
-#[derive(Drop)]
+#[derive(Clone, Copy)]
 pub enum FieldsOr {
     Shown(Fields),
     NoneOf(Refusal),
 }
 
 // A clock time of 32 bits before and 32 after the point (RFC 3611, 4.4; RFC 3550, 4).
-#[derive(Drop)]
+#[derive(Clone, Copy)]
 pub struct LongTime(pub u64);
 
 // The middle 32 bits of such a time, 16 before and 16 after the point (RFC 3611, 4.5).
-#[derive(Drop)]
+#[derive(Clone, Copy)]
 pub struct ShortTime(pub u32);
 
 // A time in the media stream's own clock (RFC 3611, 4.3).
-#[derive(Drop)]
+#[derive(Clone, Copy)]
 pub struct ReceiptTime(pub u32);
 
-#[derive(Drop)]
+#[derive(Clone, Copy)]
 pub enum TimeOr {
     Time(LongTime),
     NoTime(Refusal),
@@ -94,7 +96,7 @@ pub enum TimeOr {
 
 // Four numbers of a Statistics Summary block (RFC 3611, 4.6): of jitter, 32 bits each; of TTL or hop limit, a byte
 // each.
-#[derive(Drop)]
+#[derive(Clone, Copy)]
 pub struct Spread {
     pub least: u32,
     pub most: u32,
@@ -102,7 +104,7 @@ pub struct Spread {
     pub deviation: u32,
 }
 
-#[derive(Drop)]
+#[derive(Clone, Copy)]
 pub struct ByteSpread {
     pub least: u8,
     pub most: u8,
@@ -111,7 +113,7 @@ pub struct ByteSpread {
 }
 
 // All numbers of such a block as they stand, whatever its flags say.
-#[derive(Drop)]
+#[derive(Clone, Copy)]
 pub struct Sums {
     pub ssrc: u32,
     pub begin: u16,
@@ -123,20 +125,20 @@ pub struct Sums {
 }
 
 // A number, or none where its flag is clear: which is another answer than 0.
-#[derive(Drop)]
+#[derive(Clone, Copy)]
 pub enum CountOr {
     Counted(u32),
     Uncounted,
 }
 
-#[derive(Drop)]
+#[derive(Clone, Copy)]
 pub enum JitterOr {
     Jitter(Spread),
     NoJitter,
 }
 
 // What the two bits ToH say: 0 no numbers, 1 of TTL, 2 of hop limit; 3 is no number of RFC 3611's, and has none.
-#[derive(Drop)]
+#[derive(Clone, Copy)]
 pub enum HopsOr {
     NoHops,
     Ttl(ByteSpread),
@@ -145,7 +147,7 @@ pub enum HopsOr {
 }
 
 // What a Statistics Summary block shows.
-#[derive(Drop)]
+#[derive(Clone, Copy)]
 pub struct Summary {
     pub ssrc: u32,
     pub begin: u16,
@@ -156,7 +158,7 @@ pub struct Summary {
     pub hops: HopsOr,
 }
 
-#[derive(Drop)]
+#[derive(Clone, Copy)]
 pub enum SummaryOr {
     Stated(Summary),
     NoSummary(Refusal),

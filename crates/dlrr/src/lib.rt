@@ -1,6 +1,8 @@
 // The clock echoes of a DLRR block, into three lent lists, in both readings (RFC 3611, 4.5).
 // Port of: dlrr.rs DelaySinceLastReceiverReport::block_iter; differs: the standard reading takes the block's own
 // entries, whatever their number.
+#![tactic(auto)]
+
 ghost use Rattle.std.specs.Prelude.{◌≡◌, ◌++◌, map, ◌+◌, ◌*◌, ◌-◌, ◌/◌, ◌≤◌, ◌<◌, min, length, drop};
 ghost use Rattle.def_standard.specs.Standard.{entries_of};
 ghost use Rattle.def_questions.specs.Questions.{entries_shown, ListedEntries, least3};

@@ -2,6 +2,8 @@
 // print's functions do, and each function promises that it has added exactly its part of `dump_text`
 // (def_dump/specs/Dump.antt). A list is filled where it is shown: into few items, and where these are too few, into as
 // many as are shown of one list at most, so that a short list does not cost what a long one does.
+#![tactic(auto)]
+
 ghost use Rattle.std.specs.Prelude.{◌≡◌};
 ghost use Rattle.def_wire.specs.Packet.{count_of};
 ghost use Rattle.def_wire.specs.Block.{check_of, fields_of, time_of};

@@ -1,5 +1,7 @@
 // The lines of events (RULES, "Packets in portions"). The text goes through a lent buffer, as print's functions do,
 // and each function promises that it has added exactly its text (def_dump/specs/EventLines.antt).
+#![tactic(auto)]
+
 ghost use Rattle.std.specs.Prelude.{◌≡◌, ◌++◌, ◌<◌};
 ghost use Rattle.def_text.specs.Buffer.{Added};
 ghost use Rattle.def_text.specs.Numerals.{labelled, spaced, line_end};

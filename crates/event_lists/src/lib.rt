@@ -1,5 +1,7 @@
 // Events in four lent lists side by side (RULES, "Packets in portions"): stored one by one, the numbers of a chunk word
 // at once, and read back.
+#![tactic(auto)]
+
 ghost use Rattle.std.specs.Prelude.{◌≡◌, ◌∷◌, [], map, ◌+◌, ◌*◌, ◌-◌, ◌≤◌, ◌<◌, length, take};
 ghost use Rattle.std.proofs.lemmas.List.Edits.{sets};
 ghost use Rattle.def_standard.specs.Chunks.{values_in};

@@ -1,4 +1,6 @@
 // The library's answers as numbers, for callers in other languages: each a flat copy of an answer.
+#![tactic(auto)]
+
 ghost use Rattle.std.specs.Prelude.{◌≡◌};
 ghost use Rattle.flat.specs.Flat.{reading_of, chunk_asked, flat_refusal, flat_of, flat_located, flat_fields};
 ghost use Rattle.flat.specs.Flat.{flat_time, flat_stretch, flat_chunk, flat_checked, flat_followed, flat_summary};

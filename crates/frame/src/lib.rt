@@ -1,5 +1,7 @@
 // A packet's frame into a lent buffer: its first eight bytes, and its padding (RFC 3611, 2; RULES, "Job lists and
 // writing").
+#![tactic(auto)]
+
 ghost use Rattle.std.specs.Prelude.{◌≡◌, ◌∷◌, ◌++◌, ◌+◌, ◌-◌, ◌/◌, ◌≤◌, length, replicate};
 ghost use Rattle.def_wire.specs.Bytes.{two, four};
 ghost use Rattle.laws.specs.Stores.{Wrote};

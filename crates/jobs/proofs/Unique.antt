@@ -21,7 +21,7 @@ kind-at-unique κs a r₁ r₂ s₁ s₂ p q = p ∙ sym q
 pub body-at-unique : (κs : Lfts 1) → Fixes (body_at.Post κs) (λ r s. r.now)
 body-at-unique κs a r₁ r₂ s₁ s₂ p q = p.0 ∙ sym q.0
 
-pub body-at-unique-ptr : (κs : Lfts 1) → Fixes (body_at.Post κs) (λ r s. r.ptr)
+pub body-at-unique-ptr : (κs : Lfts 1) → Fixes (body_at.Post κs) (λ r s. r.ref_ptr)
 body-at-unique-ptr κs a r₁ r₂ s₁ s₂ p q = p.1 ∙ sym q.1
 
 pub whole-kind-unique : (κs : Lfts 1) → Fixes (whole-kind.Post κs) (λ r s. r)

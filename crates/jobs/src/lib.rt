@@ -1,5 +1,7 @@
 // Job lists, read where the caller has them: a record at a place, whether it is a good header record, and the kind of
 // block that it asks for (RULES, "Job lists and writing"). Nothing is copied, and a byte past the end is 0.
+#![tactic(auto)]
+
 ghost use Rattle.std.specs.Prelude.{◌≡◌, true, ◌+◌, ◌≤◌, drop};
 ghost use Rattle.def_wire.specs.Packet.{start_from};
 ghost use Rattle.def_wire.specs.Block.{kind_of};

@@ -1,1 +1,2 @@
 // Laws that the proofs of the other crates share. No code.
+#![tactic(auto)]

@@ -1,6 +1,8 @@
 // Lent memory with a pattern in it, and whether the pattern still stands (README, "xrprobe"): xrprobe lends memory in
 // this way, so that a call that stores anything behind its items would be seen: a line `spoilt` would follow its
 // answer. That it never does is proved (proofs/TellLaws.antt), so no definition of an answer speaks of it.
+#![tactic(auto)]
+
 ghost use Rattle.std.specs.Prelude.{◌≡◌, length, drop};
 ghost use Rattle.def_text.specs.Buffer.{Added};
 ghost use Rattle.lent.specs.Telling.{unless_whole};

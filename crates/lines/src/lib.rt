@@ -1,6 +1,8 @@
 // The lines that the dump and xrprobe print (RULES, "Views, cursors and the dump"; README, "xrprobe"). The text goes
 // through a lent buffer, as print's functions do, and each function promises that it has added exactly its line
 // (def_dump/specs/Lines.antt).
+#![tactic(auto)]
+
 ghost use Rattle.std.specs.Prelude.{◌≡◌, take};
 ghost use Rattle.def_text.specs.Buffer.{Added};
 ghost use Rattle.def_text.specs.Numerals.{ascii, two_in_turn, three_in_turn};

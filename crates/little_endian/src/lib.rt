@@ -1,5 +1,7 @@
 // Little-endian numbers, as job lists have them (RULES, "Job lists and writing"): at any index, as a byte past the end
 // is 0, and where every byte is inside.
+#![tactic(auto)]
+
 ghost use Rattle.std.specs.Prelude.{◌≡◌, ◌+◌, ◌≤◌, length};
 ghost use Rattle.def_jobs.specs.Jobs.{le16, le32};
 

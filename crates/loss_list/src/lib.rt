@@ -1,6 +1,8 @@
 // The job list of one loss record, as a report on marks wants it (RULES, "Chunk words from marks" and "Job lists and
 // writing"): the header record of a sender, without padding, and the record with its words, little-endian. The Rust
 // has no job lists.
+#![tactic(auto)]
+
 ghost use Rattle.std.specs.Prelude.{◌++◌, ◌+◌, ◌*◌, ◌≤◌, length};
 ghost use Rattle.def_refusals.specs.Answers.{shown, Listed};
 ghost use Rattle.def_jobs.specs.Layout.{bytes_of};

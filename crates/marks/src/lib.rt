@@ -1,6 +1,8 @@
 // Chunk words from heard marks (RFC 3611, 4.1.1 and 4.1.2; RULES, "Chunk words from marks"). The Rust has no such
 // function. The marks are judged first, many at a time; then each word is made from 15 marks at once, and a run gone
 // through four marks at a time. The words are counted before only where the lent list could be too short.
+#![tactic(auto)]
+
 ghost use Rattle.std.specs.Prelude.{◌≡◌, true, ◌+◌, ◌*◌, ◌≤◌, ◌<◌, length, drop};
 ghost use Rattle.def_refusals.specs.Answers.{shown, Listed};
 ghost use Rattle.def_marks.specs.Marks.{bits_of, is_run, run_length, word_for, taken_by, words_of, bad_from};

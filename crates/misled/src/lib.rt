@@ -1,6 +1,8 @@
 // Whether an old reader would be misled by a record's block (RULES, "Job lists and writing"): asked of the record and
 // of how many bytes stand behind its block. Nothing is laid out, and words are passed once, many at a time where that
 // can be done, not position by position.
+#![tactic(auto)]
+
 ghost use Rattle.std.specs.Prelude.{◌≡◌, ◌+◌, ◌*◌, ◌%◌, ◌<◌, ◌≤◌, length};
 ghost use Rattle.std.specs.Int.Count.{count_leading_zeros};
 ghost use Rattle.def_standard.specs.Chunks.{covers_of};

@@ -1,5 +1,7 @@
 // The numbers and the chunk words of loss and duplicate blocks, of a view and of a packet, in both readings.
 // Types 1 and 2 differ in the asked type alone. Port of: rle.rs Rle::sequence_iter and chunk_iter.
+#![tactic(auto)]
+
 ghost use Rattle.std.specs.Prelude.{◌≡◌};
 ghost use Rattle.def_refusals.specs.Answers.{Listed};
 ghost use Rattle.def_questions.specs.Questions.{numbers_shown, words_shown};

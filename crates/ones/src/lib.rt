@@ -1,5 +1,7 @@
 // The ones of one chunk word (RFC 3611, 4.1): their numbers stored, and where the crate's test first fails. What the
 // lists of a block and the cursor are made of.
+#![tactic(auto)]
+
 ghost use Rattle.std.specs.Prelude.{◌≡◌, ◌+◌, ◌-◌, ◌*◌, ◌%◌, ◌^◌, ◌<◌, ◌≤◌, length, take, drop, if◌then◌else◌, nat_lt};
 ghost use Rattle.def_standard.specs.Chunks.{covers_of, values_in};
 ghost use Rattle.laws.specs.Stores.{Wrote};

@@ -2,6 +2,8 @@
 // 4.3).
 // Port of: packet_receipt_time.rs PacketReceiptTimes::sequence_iter; differs: the standard reading takes the block's
 // own times.
+#![tactic(auto)]
+
 ghost use Rattle.std.specs.Prelude.{◌≡◌, ◌+◌, ◌-◌, ◌*◌, ◌/◌, ◌%◌, ◌<◌, ◌≤◌, min, length, drop};
 ghost use Rattle.def_wire.specs.Bytes.{be32, words32};
 ghost use Rattle.def_standard.specs.Range.{number_of};

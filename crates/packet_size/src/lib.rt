@@ -1,4 +1,6 @@
 // How many bytes the packet of a job list has, in one pass over its records (RULES, "Job lists and writing").
+#![tactic(auto)]
+
 ghost use Rattle.std.specs.Prelude.{◌≡◌, ◌≤◌, length, drop};
 ghost use Rattle.def_jobs.specs.Jobs.{jobs_of};
 ghost use Rattle.def_jobs.specs.Writing.{size_fault};

@@ -1,6 +1,8 @@
 // The standard reading of a packet that comes in portions, some bytes at a time (RULES, "Packets in portions"): a
 // state of fixed size goes in by value and comes back, and a call's events go into four lent lists. Nothing of the
 // packet is kept but the bytes of an item that is not complete.
+#![tactic(auto)]
+
 ghost use Rattle.std.specs.Prelude.{◌≡◌, ◌+◌, ◌≤◌, ◌<◌, length, drop};
 ghost use Rattle.def_portions.specs.Lists.{room_in};
 ghost use Rattle.def_portions.specs.Calls.{room_fault};

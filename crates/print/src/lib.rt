@@ -2,6 +2,8 @@
 // (RULES, "Text through a lent buffer"). `at` is how many bytes of the buffer wait; each function answers the new `at`,
 // and promises that it has added exactly its text (def_text/specs/Buffer.antt). That what is written out reaches
 // standard output is the one thing that no contract can say.
+#![tactic(auto)]
+
 ghost use Rattle.std.specs.Prelude.{◌+◌, ◌≤◌, ◌<◌, ◌≡◌, [], ◌∷◌, length, take};
 ghost use Rattle.laws.specs.Stores.{Wrote};
 ghost use Rattle.io.specs.Digits.{last_digits, IsDigitCount};
@@ -9,7 +11,8 @@ ghost use Rattle.def_text.specs.Buffer.{Added};
 ghost use Rattle.def_text.specs.Numerals.{glyph as glyph_of, decimal_of, hex_of, hexes_of, spaced, spaced_all};
 ghost use Rattle.def_text.specs.Numerals.{labelled as labelled_of, line_end, two_in_turn, three_in_turn};
 
-use libc::STDOUT_FILENO;
+// The file descriptor of standard output.
+const STDOUT_FILENO: i32 = 1;
 
 // Writes what waits to a file descriptor, and empties the buffer.
 pub fn send(fd: i32, buf: &[u8], at: usize) -> usize

@@ -1,6 +1,8 @@
 // What xrprobe answers to a request (README, "xrprobe"): the payload is taken apart, and the question that it asks is
 // answered. `answer` promises that it has added exactly the text of def_probe's `answer_to`, and nothing where the
 // request is none that is served.
+#![tactic(auto)]
+
 ghost use Rattle.std.specs.Prelude.{◌≡◌, true, false, drop};
 ghost use Rattle.def_jobs.specs.Jobs.{le32};
 ghost use Rattle.def_text.specs.Buffer.{Added};

@@ -2,6 +2,8 @@
 // and the dump"). The work is in functions over a slice and a place, which take any place; the functions over `Reader`
 // are thin and call one of them each. Port of: xr/mod.rs XrBlockIter, XrBlock; differs: a place past the packet's end
 // has an answer too, and the walk's checks are xr::count's.
+#![tactic(auto)]
+
 ghost use Rattle.std.specs.Prelude.{◌≡◌, ◌≤◌};
 ghost use Rattle.def_wire.specs.Packet.{length_at, next_place, view_from, start_from};
 

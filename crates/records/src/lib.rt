@@ -2,6 +2,8 @@
 // a type number: what every crate that speaks of a block's type takes it from. Port of: the BLOCK_TYPE constants of
 // loss_rle.rs, duplicate_rle.rs, packet_receipt_time.rs, receiver_reference_time.rs, dlrr.rs; differs: the trait with
 // a constant is a constant of each record. The Rust has no type 6.
+#![tactic(auto)]
+
 ghost use Rattle.std.specs.Prelude.{◌≡◌};
 ghost use Rattle.def_wire.specs.Block.{rle_type, ranged_type, kind_type, rle_of, ranged_of, kind_of, kind_in};
 

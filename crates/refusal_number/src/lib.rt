@@ -1,4 +1,6 @@
 // RULES' number and two values of a refusal, for programs that write them out and for callers in other languages.
+#![tactic(auto)]
+
 ghost use Rattle.std.specs.Prelude.{◌≡◌};
 ghost use Rattle.def_refusals.specs.Numbers.{numbered};
 

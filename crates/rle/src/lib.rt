@@ -1,5 +1,7 @@
 // The numbers of loss and duplicate blocks in the crate reading, from the bytes of their words (RULES, "Crate
 // reading"). Which bytes those are, and the checks before, are the callers'. rle_standard has the standard reading's.
+#![tactic(auto)]
+
 mod list;
 
 ghost use Rattle.std.specs.Prelude.{◌≡◌, length, take};

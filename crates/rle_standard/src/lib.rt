@@ -1,5 +1,7 @@
 // The numbers of loss and duplicate blocks in the standard reading (RFC 3611, 4.1 and 4.2), from the bytes of their
 // words. Which bytes those are, and the checks before, are the callers'.
+#![tactic(auto)]
+
 mod list;
 
 ghost use Rattle.std.specs.Prelude.{◌≡◌, ◌||◌, length, drop};

@@ -1,5 +1,7 @@
 // The chunk words of loss and duplicate blocks (RFC 3611, 4.1 and 4.2), from their bytes. Which bytes those are, and
 // the checks before, are the callers'.
+#![tactic(auto)]
+
 ghost use Rattle.std.specs.Prelude.{◌≡◌, ◌≤◌, length};
 ghost use Rattle.def_wire.specs.Bytes.{words16};
 ghost use Rattle.def_refusals.specs.Answers.{shown, Listed};

@@ -2,6 +2,8 @@
 // known number of bytes: the state has the item at hand, how many of its bytes are missing and those that have come,
 // and what the items behind it need to know. Nothing else of the packet is kept: it is 96 bytes, whatever the packet.
 // Definitions only: see specs/.
+#![tactic(auto)]
+
 use def_portions::Event;
 use def_refusals::Checked;
 
@@ -35,7 +37,7 @@ pub const HOPS: u8 = 12;
 
 // The last four items of eight bytes of a summary, the last one last.
 #[repr(C)]
-#[derive(Drop)]
+#[derive(Clone, Copy)]
 pub struct Kept {
     pub first: u64,
     pub second: u64,
@@ -45,7 +47,7 @@ pub struct Kept {
 
 // What the items behind the one at hand need to know.
 #[repr(C)]
-#[derive(Drop)]
+#[derive(Clone, Copy)]
 pub struct Known {
     // the length that the header announces, from the packet's fourth byte on
     pub announced: u32,
@@ -62,7 +64,7 @@ pub struct Known {
 
 // Where a packet that comes in portions stands.
 #[repr(C)]
-#[derive(Drop)]
+#[derive(Clone, Copy)]
 pub struct Portions {
     // the bytes of the item at hand that have come, as a number
     pub held: u64,
@@ -76,14 +78,14 @@ pub struct Portions {
 }
 
 // The event of a complete item that has at most one.
-#[derive(Drop)]
+#[derive(Clone, Copy)]
 pub enum Lone {
     One(Event),
     Nothing,
 }
 
 // The state behind an item that may be complete, and how many events it shows.
-#[derive(Drop)]
+#[derive(Clone, Copy)]
 pub struct Settled {
     pub state: Portions,
     pub events: usize,
@@ -91,7 +93,7 @@ pub struct Settled {
 
 // A call's answer: the state behind it, how many of its bytes were taken (all or none), how many events it listed, and
 // why it, or the packet, is refused.
-#[derive(Drop)]
+#[derive(Clone, Copy)]
 pub struct Followed {
     pub state: Portions,
     pub taken: usize,

@@ -1,5 +1,7 @@
 // The numbers of a Statistics Summary block and its flags (RFC 3611, 4.6; def_wire/specs/Summary.antt): what is shown
 // of them, and back.
+#![tactic(auto)]
+
 ghost use Rattle.std.specs.Prelude.{◌≡◌, ◌≤◌};
 ghost use Rattle.def_wire.specs.Summary.{count_if, jitter_if, hops_by, summary_from, count_flag, jitter_flag, toh_of, flags_of};
 ghost use Rattle.def_wire.specs.Summary.{is_set, given_of, jitter_of, hops_of, sums_of};

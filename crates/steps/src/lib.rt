@@ -1,5 +1,7 @@
 // What a complete item does to the state of a packet that comes in portions: its refusal, the state behind it, and how
 // many events it shows (RULES, "Packets in portions"). Each takes all states.
+#![tactic(auto)]
+
 ghost use Rattle.std.specs.Prelude.{◌≡◌, ◌+◌, ◌≤◌, length, leb};
 ghost use Rattle.def_refusals.specs.Answers.{then_check};
 ghost use Rattle.def_wire.specs.Bytes.{four};

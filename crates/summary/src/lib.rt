@@ -1,4 +1,6 @@
 // The Statistics Summary block (RFC 3611, 4.6): what it shows, in the standard reading.
+#![tactic(auto)]
+
 ghost use Rattle.std.specs.Prelude.{◌≡◌};
 ghost use Rattle.def_wire.specs.Summary.{spread, byte_spread, sums_at, summary_at, summary_of};
 ghost use Rattle.def_questions.specs.Packets.{summary_asked};

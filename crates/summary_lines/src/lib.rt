@@ -1,4 +1,6 @@
 // The lines of a summary (def_dump/specs/Summaries.antt). The text goes through a lent buffer, as print's functions do.
+#![tactic(auto)]
+
 ghost use Rattle.def_text.specs.Buffer.{Added};
 ghost use Rattle.def_dump.specs.Summaries.{span_text, count_text, counts_text, jitter_text};
 ghost use Rattle.def_dump.specs.Summaries.{four_text, hops_text, summary_parts};

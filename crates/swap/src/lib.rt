@@ -1,6 +1,8 @@
 // Little-endian numbers stored big-endian, eight bytes at a time.
 // Port of: the Rust's `to_be_bytes` with `copy_from_slice` for each number; differs: the numbers are a record's bytes,
 // and a turn of the loop loads eight of them before it stores them, so that they go by one load and one store.
+#![tactic(auto)]
+
 ghost use Rattle.std.specs.Prelude.{◌≡◌, ◌+◌, ◌-◌, ◌≤◌, length, drop};
 ghost use Rattle.std.proofs.lemmas.List.Edits.{sets};
 ghost use Rattle.def_wire.specs.Bytes.{two, four};

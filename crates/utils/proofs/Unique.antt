@@ -64,5 +64,5 @@ above-unique κs a r₁ r₂ s₁ s₂ p q = p ∙ sym q
 pub part-unique : (κs : Lfts 1) → Fixes (part.Post κs) (λ r s. r.now)
 part-unique κs a r₁ r₂ s₁ s₂ p q = p.0 ∙ sym q.0
 
-pub part-unique-ptr : (κs : Lfts 1) → Fixes (part.Post κs) (λ r s. r.ptr)
+pub part-unique-ptr : (κs : Lfts 1) → Fixes (part.Post κs) (λ r s. r.ref_ptr)
 part-unique-ptr κs a r₁ r₂ s₁ s₂ p q = p.1 ∙ sym q.1

@@ -2,6 +2,8 @@
 // One pass with a comparison and nothing else in it: it does not stop at the first one, and it takes each word with its
 // second byte worth more, as the machine does, whatever the order in which the word was sent. So the compiler compares
 // many words at once.
+#![tactic(auto)]
+
 ghost use Rattle.std.specs.Prelude.{◌≡◌};
 ghost use Rattle.def_wire.specs.Bytes.{words16};
 ghost use Rattle.def_wire.specs.Block.{lost_run, has};

@@ -2,6 +2,8 @@
 // writing's second one looks for what misleads, and the last one writes; each byte is written once. Port of: xr/mod.rs
 // XrBuilder with RtcpPacketWriterExt::write_into; differs: a job list in place of builders, padding is sized and
 // written, and 12, 14, 15 and 11 are judged here.
+#![tactic(auto)]
+
 ghost use Rattle.std.specs.Prelude.{◌≡◌, ◌++◌, ◌+◌, ◌-◌, ◌≤◌, length, drop};
 ghost use Rattle.def_refusals.specs.Answers.{shown, Listed};
 ghost use Rattle.def_refusals.specs.declared.Checked.TheVariants.{Fine};

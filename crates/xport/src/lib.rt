@@ -1,6 +1,8 @@
 // The reading questions, chunk words from marks, and writing in both layouts, for Rust and C: each takes numbers and
 // slices and answers numbers. A slice is a pointer and a length. A reading is a number: 0 the standard, anything else
 // the crate's. A packet's blocks are counted from 0.
+#![tactic(auto)]
+
 ghost use Rattle.std.specs.Prelude.{◌≡◌, length};
 ghost use Rattle.def_refusals.specs.Answers.{refused};
 ghost use Rattle.def_wire.specs.Packet.{count_of, locate};

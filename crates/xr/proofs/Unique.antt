@@ -32,7 +32,7 @@ locate-unique κs a r₁ r₂ s₁ s₂ p q = p ∙ sym q
 pub view-unique : (κs : Lfts 1) → Fixes (view.Post κs) (λ r s. r.now)
 view-unique κs a r₁ r₂ s₁ s₂ p q = p.0 ∙ sym q.0
 
-pub view-unique-ptr : (κs : Lfts 1) → Fixes (view.Post κs) (λ r s. r.ptr)
+pub view-unique-ptr : (κs : Lfts 1) → Fixes (view.Post κs) (λ r s. r.ref_ptr)
 view-unique-ptr κs a r₁ r₂ s₁ s₂ p q = p.1 ∙ sym q.1
 
 pub header-data-unique : (κs : Lfts 1) → Fixes (header-data.Post κs) (λ r s. r)

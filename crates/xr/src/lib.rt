@@ -1,5 +1,7 @@
 // The packet: header checks, the walk over its blocks, and their views, in both readings.
 // Port of: xr/mod.rs Xr, XrBlockIter, XrBlock; utils.rs parser::check_packet.
+#![tactic(auto)]
+
 ghost use Rattle.std.specs.Prelude.{◌≡◌, ◌+◌, ◌*◌, ◌-◌, ◌%◌, ◌≤◌, ◌<◌, length, get_or};
 ghost use Rattle.def_wire.specs.Packet.{least_of, is_bad_padding, header_of, length_at, walk_from, count_of};
 ghost use Rattle.def_wire.specs.Packet.{size_at, locate, part_at, bytes_at};

@@ -1,4 +1,6 @@
 // Prints both readings of the packet on standard input (RULES, "Views, cursors and the dump").
+#![tactic(auto)]
+
 use libc::STDIN_FILENO;
 
 // One byte more than the longest packet that is dumped, so that a longer one is seen to be longer.

@@ -2,6 +2,8 @@
 // soon as its bytes are there (RULES, "Packets in portions"). Behind a packet's end the next one begins. A refusal
 // prints `refused N A B` and ends the run, since the place of the next packet is lost; an input that ends inside a
 // packet prints `cut`. Both then say so on standard error, by which ./xrfollow knows that the run ended badly.
+#![tactic(auto)]
+
 use def_refusals::Checked;
 use libc::{STDERR_FILENO, STDIN_FILENO};
 use states::Portions;

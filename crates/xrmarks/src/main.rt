@@ -3,6 +3,8 @@
 // begin, the media SSRC and the sender's SSRC, in decimal, each 0 where it is not given. A refusal is one line
 // `refused N A B` on standard error; wrong arguments, and an input that cannot be read, give one line there too.
 // Nothing then goes to standard output.
+#![tactic(auto)]
+
 mod arguments;
 mod input;
 

@@ -2,6 +2,8 @@
 // bytes of length (little-endian, at most 300,000) and the payload; each answer is text lines and then a line with a
 // single `.`. README.md, "xrprobe", lists the kinds; what each is answered is def_probe's `answer_to`, which `probe` is
 // proved to add to the buffer.
+#![tactic(auto)]
+
 use libc::STDIN_FILENO;
 
 // The longest payload.

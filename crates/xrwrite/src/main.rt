@@ -1,6 +1,8 @@
 // Writes the packet of the job list on standard input to standard output, in the layout that its one argument names,
 // plain or careful (RULES, "Job lists and writing"). A refusal is one line `refused N A B` on standard error; other
 // arguments give one line there too, and nothing is read. Nothing then goes to standard output.
+#![tactic(auto)]
+
 use def_jobs::Layout;
 use def_refusals::{Answer, Refusal};
 use libc::{STDERR_FILENO, STDIN_FILENO};

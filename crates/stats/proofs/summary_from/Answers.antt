@@ -1,0 +1,17 @@
+-- `stats::summary_from` meets its contract: each number by its own flag.
+use borrow.Author.Rules.{rules}
+use Rattle.def_wire.specs.Summary.{summary_from}
+use Rattle.stats.proofs.summary_from.Goals as goal
+
+pub returns : goal.returns
+unfolding summary_from
+returns c =
+    rw (
+      c.hops_by.ensures,
+      c.jitter_if.ensures,
+      c.is_set-3.ensures,
+      c.count_if-2.ensures,
+      c.is_set-2.ensures,
+      c.count_if.ensures,
+      c.is_set.ensures,
+    )
