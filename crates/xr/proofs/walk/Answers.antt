@@ -1,0 +1,17 @@
+-- `xr::walk` meets its contract: the walk to where the blocks end, noting where block k begins.
+use Rattle.xr.proofs.WalkTurn.{walked, walked-cut}
+use borrow.Author.Rules.{rules}
+use Rattle.xr.proofs.walk.Goals as goal
+
+pub walk_on-requires : goal.walk_on-requires
+walk_on-requires c = (c.requires.0, c.requires.1, c.reach-w.ensures.at c.in-Done.n c.in-Done.is)
+
+pub returns-in-Done : goal.returns-in-Done
+returns-in-Done c = let a = c.args in
+    walked a.s.now a.stop a.k c.reach-w.result.place c.in-Done.n c.walk_on.result
+    c.reach-w.result.count c.reach-w.ensures c.in-Done.is c.walk_on.ensures
+
+pub returns-in-Refused : goal.returns-in-Refused
+returns-in-Refused c = let a = c.args in
+    walked-cut a.s.now a.stop a.k c.reach-w.result.place c.in-Refused.x
+    c.reach-w.result.count c.reach-w.ensures c.in-Refused.is
