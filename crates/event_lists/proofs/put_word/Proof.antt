@@ -17,10 +17,10 @@ returns c = let t = c.before.before in
     let w = t.before.before.before.before in
     let a = w.before.before.before.before.args in
     let xs = along a.step a.first (take a.room (values_in a.w)) in
-    let e : w.Store-word.result - a.n ≡ length xs = omega (arith, w.Store-word.ensures.past) in (
+    let e : w.store-word.result - a.n ≡ length xs = omega (arith, w.store-word.ensures.past) in (
       t.put-tags.ensures ∙ ap (λ (k : ℕ). sets a.tags.now a.n (number_tags k)) e
           ∙ sym (laid-tags xs a.n a.tags.now),
-      (w.Store-word.ensures.stored ∙ sym (laid-numbers xs a.n a.numbers.now), w.Store-word.ensures.past),
+      (w.store-word.ensures.stored ∙ sym (laid-numbers xs a.n a.numbers.now), w.store-word.ensures.past),
     )
 
 pub put-word-spec : {M : Type 1} → statement M

@@ -1,0 +1,14 @@
+-- `marks::count_words` meets its contract: word by word.
+use Prim.Native.Nat.{◌-◌, ◌≤◌, ◌<◌}
+use lib.ListN.{length, drop}
+use Rattle.def_marks.specs.Marks.{words_of}
+use Rattle.laws.proofs.Filling.{Counting}
+use Rattle.marks.proofs.count_words.Given as goal
+
+abbrev pub invariant-loop-at : goal.invariant-loop-at
+invariant-loop-at l =
+    (l.at < 81919) × (l.n ≤ l.at) × Counting (words_of l.marks) (words_of (drop l.at l.marks)) l.n
+
+abbrev pub decreases-loop-at : goal.decreases-loop-at
+decreases-loop-at l =
+    length l.marks - l.at
