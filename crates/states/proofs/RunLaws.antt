@@ -2,7 +2,7 @@
 --     after-append, shows-append     bytes behind others
 --     after-closed, shows-closed     a state that takes none
 --     item-after, item-shows         bytes of the item at hand, as many as are missing at most
-use Prim.Native.Nat.{ℕ, zero, suc, ◌+◌, ◌-◌, ◌≤◌, ◌<◌}
+use Prim.Native.Nat.{ℕ, suc, ◌-◌, ◌≤◌, ◌<◌}
 use mathlib.Core.Path.{◌≡◌, refl, sym, ap, ◌∙◌}
 use mathlib.Core.Bool.{false}
 use mathlib.Core.List.{List, [], ◌∷◌, ◌++◌, append_assoc}

@@ -3,7 +3,7 @@
 --     call_fault      the refusal of a call that takes nothing: one that stays, 19, 11
 --     followed_of     the answer
 --     Following      the contract: the answer, and what the four lent lists then hold
-use Rattle.std.specs.Prelude.{ℕ, ◌+◌, ◌-◌, min, ◌≡◌, cond, ◌&&◌, List, [], length, take, leb, eqb}
+use Rattle.std.specs.Prelude.{ℕ, ◌+◌, ◌-◌, ◌≡◌, cond, ◌&&◌, List, [], length, take, leb, eqb}
 use Rattle.def_refusals.specs.declared.Refusal.TheVariants.{PastEnd}
 use Rattle.def_refusals.specs.declared.Checked.{Checked}
 use Rattle.def_refusals.specs.declared.Checked.TheVariants.{Fine, Unfit}
