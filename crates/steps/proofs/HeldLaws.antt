@@ -14,7 +14,7 @@ use Rattle.states.specs.Steps.{skipped, held_with, held_over}
 pub held-skipped : (item h : ℕ) (bs : List ℕ) → item ≡ skipped → h ≡ held_over item h bs
 unfolding held_over
 held-skipped item h [] e = refl
-held-skipped item h (b ∷ bs) e = rw e (held-skipped skipped h bs refl)
+held-skipped item h (b ∷ bs) e = rw e (held-skipped item h bs e)
 
 pub length_part : (x : List ℕ) (at n : ℕ) → at + n ≤ length x → length (part x at n) ≡ n
 length_part x at n h = omega (arith, length-take n (drop at x), length-drop at x)

@@ -102,6 +102,7 @@ pub fn thinning_of(k: Known) -> u8
 }
 
 // What the packet's first four bytes show: 1, 2, 3, 18.
+#[tactic(auto, unfolding(def_portions::specs::Events::head_fault))]
 fn head_fault(w: u32) -> Checked
     ensures { result ≡ head_fault (four w) }
 {

@@ -1,0 +1,54 @@
+-- `steps::in_block` meets its contract: by the block's kind.
+use Rattle.states.specs.Steps.{in_block}
+use Rattle.steps.proofs.KindLaws.{kind-is, kind-none}
+use Rattle.steps.proofs.in_block.Goals as goal
+
+pub returns-in-Spans : goal.returns-in-Spans
+unfolding in_block
+returns-in-Spans c = rw (
+  c.opened.ensures,
+  kind-is c.kind_of.ensures c.first_byte.ensures c.in-AKind.is c.in-Spans.is,
+  c.above-left.ensures,
+  c.length_of.ensures.value,
+  c.nothing.ensures,
+)
+
+pub returns-in-Clock : goal.returns-in-Clock
+unfolding in_block
+returns-in-Clock c = rw (
+  c.opened-in-Clock.ensures,
+  kind-is c.kind_of.ensures c.first_byte.ensures c.in-AKind.is c.in-Clock.is,
+  c.above-left.ensures,
+  c.length_of.ensures.value,
+  c.nothing.ensures,
+)
+
+pub returns-in-Echoes : goal.returns-in-Echoes
+unfolding in_block
+returns-in-Echoes c = rw (
+  c.opened-in-Echoes.ensures,
+  kind-is c.kind_of.ensures c.first_byte.ensures c.in-AKind.is c.in-Echoes.is,
+  c.above-left.ensures,
+  c.length_of.ensures.value,
+  c.nothing.ensures,
+)
+
+pub returns-in-Statistics : goal.returns-in-Statistics
+unfolding in_block
+returns-in-Statistics c = rw (
+  c.opened-in-Statistics.ensures,
+  kind-is c.kind_of.ensures c.first_byte.ensures c.in-AKind.is c.in-Statistics.is,
+  c.above-left.ensures,
+  c.length_of.ensures.value,
+  c.nothing.ensures,
+)
+
+pub returns-in-NoKind : goal.returns-in-NoKind
+unfolding in_block
+returns-in-NoKind c = rw (
+  c.opened-in-NoKind.ensures,
+  kind-none c.kind_of.ensures c.first_byte.ensures c.in-NoKind.is,
+  c.above-left.ensures,
+  c.length_of.ensures.value,
+  c.nothing.ensures,
+)
