@@ -2,7 +2,7 @@
 --     nothing, and_then, fits     no text; two texts one after the other; a text for which there is room
 --     byte-room, byte_full, byte-lost     one byte
 --     Adding                      a text on its way: to add the rest to l comes to adding the whole to l₀
-use Prim.Native.Nat.{ℕ, suc, ◌+◌, ◌≤◌, ◌<◌, min}
+use Prim.Native.Nat.{ℕ, suc, ◌+◌, ◌≤◌, ◌<◌}
 use mathlib.Core.Path.{◌≡◌, refl, sym, ap, ◌∙◌}
 use mathlib.Core.List.{List, [], ◌∷◌, ◌++◌}
 use native.Mathlib.Nat.{add-zero, min-eq_left}

@@ -1,0 +1,8 @@
+-- `block::rule` meets its contract: A length rule.
+use Rattle.block.proofs.rule.Goals as goal
+
+pub returns-then-ok : goal.returns-then-ok
+returns-then-ok c = rw c.if-ok.true
+
+pub returns : goal.returns
+returns c = rw c.if-ok.false
