@@ -2,7 +2,6 @@
 --     summary_parts     its four texts, with something between them
 --     summary_lines     in the dump: four lines
 use Rattle.std.specs.Prelude.{ℕ, List, ◌++◌}
-use Rattle.def_wire.specs.declared.Spread.{Spread}
 use Rattle.def_wire.specs.declared.ByteSpread.{ByteSpread}
 use Rattle.def_wire.specs.declared.CountOr.{CountOr}
 use Rattle.def_wire.specs.declared.CountOr.TheVariants.{Counted, Uncounted}

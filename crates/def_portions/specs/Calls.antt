@@ -2,14 +2,13 @@
 -- order of refusals: one that stays; 1, 2, 3, 18; 19; 11; 6, 7.
 --     call_of     the events that a call adds, its refusal, and the bytes taken then
 use Rattle.std.specs.Prelude.{ℕ, cond, List, [], ◌++◌, length, drop, ltb, leb}
-use Rattle.def_refusals.specs.declared.Refusal.{Refusal}
 use Rattle.def_refusals.specs.declared.Refusal.TheVariants.{NoRoom, PastEnd}
 use Rattle.def_refusals.specs.declared.Checked.{Checked}
 use Rattle.def_refusals.specs.declared.Checked.TheVariants.{Fine, Unfit}
 use Rattle.def_refusals.specs.Answers.{then_check}
 use Rattle.def_wire.specs.Packet.{announced_of}
 use Rattle.def_portions.specs.declared.Event.{Event}
-use Rattle.def_portions.specs.Events.{Course, course_of, head_fault, need}
+use Rattle.def_portions.specs.Events.{course_of, head_fault, need}
 
 -- the events that a call adds, why it is refused, and the bytes that were taken, its own among them
 pub record Call : Type 0 where

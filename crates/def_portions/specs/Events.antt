@@ -14,7 +14,6 @@ use Rattle.def_refusals.specs.declared.Checked.TheVariants.{Fine, Unfit}
 use Rattle.def_refusals.specs.Answers.{then_check}
 use Rattle.def_wire.specs.declared.Ranged.{Ranged}
 use Rattle.def_wire.specs.declared.Ranged.TheVariants.{Chunks, Times}
-use Rattle.def_wire.specs.declared.Kind.{Kind}
 use Rattle.def_wire.specs.declared.Kind.TheVariants.{Spans, Clock, Echoes, Statistics}
 use Rattle.def_wire.specs.declared.KindOr.{KindOr}
 use Rattle.def_wire.specs.declared.KindOr.TheVariants.{AKind, NoKind}

@@ -3,7 +3,7 @@
 --     held_after, waits_after      what the buffer holds, and how many of its bytes wait, after a text was added
 --     sent_after                  what was written out on the way
 --     Added                      the contract of a call that adds a text
-use Rattle.std.specs.Prelude.{ℕ, ◌+◌, min, ◌≡◌, cond, List, [], ◌∷◌, ◌++◌, length, set, take, ltb}
+use Rattle.std.specs.Prelude.{ℕ, ◌+◌, min, ◌≡◌, cond, List, [], ◌∷◌, ◌++◌, length, set, ltb}
 
 -- where the next byte goes, in a buffer of n bytes of which the first `at` wait: behind these; to the front where all
 -- of them wait, since they are written out before it

@@ -52,7 +52,7 @@ pieces-hold =
       fields-and-rest = refl;
       words = (refl, refl, refl, refl, refl);
       padding = (refl, refl, refl);
-      first_byte = refl;
+      first_byte_lem = refl;
     }
 
 pub blocks-hold : Blocks

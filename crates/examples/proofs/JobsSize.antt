@@ -1,17 +1,5 @@
 -- JobsSize, by the tests that lead to each answer.
-use Prim.Native.Nat.{ℕ, ◌-◌}
-use mathlib.Core.Path.{◌≡◌}
-use mathlib.Core.Bool.{true, false}
-use mathlib.Core.List.{List}
-use lib.ListN.{length}
-use lib.Dec.{ltb}
-use Rattle.def_refusals.specs.declared.Refusal.TheVariants.{TooMany}
-use Rattle.def_refusals.specs.declared.Checked.TheVariants.{Fine, Unfit}
-use Rattle.def_jobs.specs.declared.Layout.{Layout}
-use Rattle.def_jobs.specs.declared.Layout.TheVariants.{Plain, Careful}
-use Rattle.def_jobs.specs.Jobs.{Job, jobs_fault}
-use Rattle.def_jobs.specs.Layout.{layout_of}
-use Rattle.def_jobs.specs.Writing.{misleading_from, write_fault}
+use Rattle.def_jobs.specs.Writing.{write_fault}
 use Rattle.examples.specs.JobsSize.{OfAnyList}
 
 pub of-any-list-hold : OfAnyList

@@ -1,6 +1,5 @@
 -- Facts of def_crate: `xr_offset_sequence`, the start that moves, the crate reading's lists. RULES, "Crate reading".
-use Rattle.std.specs.Prelude.{ℕ, ◌≡◌, true, false, List, [], ◌∷◌, map, ltb}
-use Rattle.def_standard.specs.declared.Receipt.{Receipt}
+use Rattle.std.specs.Prelude.{ℕ, ◌≡◌, true, false, [], ◌∷◌, map, ltb}
 use Rattle.def_crate.specs.declared.Tried.TheVariants.{Passes, Fails}
 use Rattle.def_crate.specs.Sequence.{doubled_of, sequence_of, passes, offset_sequence, moved_by}
 use Rattle.def_crate.specs.Crate.{while_from, Try, ones_in, try_at, tries_from, crate_numbers_from, crate_pairs_from}

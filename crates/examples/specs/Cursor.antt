@@ -2,7 +2,6 @@
 use Rattle.std.specs.Prelude.{ℕ, ◌≡◌, true, false, List, [], ◌∷◌, map}
 use Rattle.def_refusals.specs.declared.Refusal.TheVariants.{NoPlace, NoRoom}
 use Rattle.def_refusals.specs.declared.Checked.TheVariants.{Fine, Unfit}
-use Rattle.def_standard.specs.declared.Range.{Range}
 use Rattle.def_standard.specs.Range.{range_of}
 use Rattle.def_cursor.specs.declared.Cursor.{Cursor}
 use Rattle.def_cursor.specs.declared.Stretch.{Stretch}

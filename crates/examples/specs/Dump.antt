@@ -1,5 +1,5 @@
 -- Facts of def_dump: each line, and dumps of whole packets (RULES, "Views, cursors and the dump").
-use Rattle.std.specs.Prelude.{ℕ, ◌≡◌, List, [], ◌∷◌, ◌++◌, replicate}
+use Rattle.std.specs.Prelude.{ℕ, ◌≡◌, [], ◌∷◌, replicate}
 use Rattle.def_refusals.specs.declared.Refusal.TheVariants.{WrongVersion, BlockTooLong, BadBlockLength}
 use Rattle.def_refusals.specs.Answers.{shown, refused}
 use Rattle.def_wire.specs.declared.Reading.TheVariants.{Standard, Crate}

@@ -1,17 +1,16 @@
 -- RULES, "Twelve examples to prove together": one statement covers the list. proofs/Twelve.antt proves it by
 -- computation.
-use Rattle.std.specs.Prelude.{ℕ, ◌≡◌, List, [], ◌∷◌, ◌++◌}
+use Rattle.std.specs.Prelude.{◌≡◌, [], ◌∷◌, ◌++◌}
 use Rattle.def_refusals.specs.declared.Refusal.TheVariants.{TooShort, BadBlockLength, Misleads}
 use Rattle.def_refusals.specs.declared.Answer.TheVariants.{Done, Refused}
-use Rattle.def_refusals.specs.declared.Numbered.{Numbered}
 use Rattle.def_refusals.specs.Numbers.{numbered, row}
-use Rattle.def_refusals.specs.Answers.{Or, shown, refused}
+use Rattle.def_refusals.specs.Answers.{shown, refused}
 use Rattle.def_wire.specs.declared.Reading.TheVariants.{Standard, Crate}
 use Rattle.def_wire.specs.declared.FieldsOr.TheVariants.{Shown}
 use Rattle.def_wire.specs.Packet.{count_of, length_at}
 use Rattle.def_wire.specs.declared.Rle.TheVariants.{Loss}
 use Rattle.def_wire.specs.declared.Ranged.TheVariants.{Chunks}
-use Rattle.def_standard.specs.Chunks.{covers_of, value_of}
+use Rattle.def_standard.specs.Chunks.{covers_of}
 use Rattle.def_standard.specs.Range.{range_of}
 use Rattle.def_standard.specs.Standard.{numbers_of, receipt}
 use Rattle.def_crate.specs.Crate.{ones_in}

@@ -1,8 +1,8 @@
 -- Facts of def_jobs' Shown: all that a block shows in each reading, and when two show the same.
 -- RULES, "Job lists and writing": "Shown" compares fields, numbers, times, entries; not chunk words.
-use Rattle.std.specs.Prelude.{ℕ, ◌≡◌, Bool, true, false, List, [], ◌∷◌, map}
-use Rattle.def_refusals.specs.declared.Refusal.TheVariants.{OtherType, BadBlockLength, NoFields}
-use Rattle.def_refusals.specs.Answers.{Or, shown, refused}
+use Rattle.std.specs.Prelude.{◌≡◌, true, false, [], ◌∷◌, map}
+use Rattle.def_refusals.specs.declared.Refusal.TheVariants.{BadBlockLength, NoFields}
+use Rattle.def_refusals.specs.Answers.{shown, refused}
 use Rattle.def_wire.specs.declared.Reading.TheVariants.{Standard, Crate}
 use Rattle.def_wire.specs.declared.Rle.TheVariants.{Loss, Duplicate}
 use Rattle.def_jobs.specs.Shown.{Record, reported, received, clocked, echoed, bare}

@@ -1,6 +1,6 @@
 -- Facts of def_jobs' Writing: 14 of bytes, stated of any job list: a packet of 262,144 bytes takes long to compute.
 -- RULES, "Refusal numbers" and "Job lists and writing".
-use Rattle.std.specs.Prelude.{ℕ, ◌-◌, ◌≡◌, true, false, List, length, ltb}
+use Rattle.std.specs.Prelude.{◌-◌, ◌≡◌, true, false, List, length, ltb}
 use Rattle.def_refusals.specs.declared.Refusal.TheVariants.{TooMany}
 use Rattle.def_refusals.specs.declared.Checked.TheVariants.{Fine, Unfit}
 use Rattle.def_jobs.specs.declared.Layout.{Layout}

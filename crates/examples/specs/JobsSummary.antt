@@ -1,7 +1,7 @@
 -- Facts of def_jobs for kind 6: which records are good, what they ask, their 40 bytes, what a summary shows and when
 -- two show the same, and that a summary misleads nobody.
 -- RULES, "Job lists and writing".
-use Rattle.std.specs.Prelude.{ℕ, ◌≡◌, true, false, List, [], ◌∷◌, ◌++◌, map, length, take, drop, replicate}
+use Rattle.std.specs.Prelude.{ℕ, ◌≡◌, true, false, List, [], ◌∷◌, ◌++◌, map, length, take, replicate}
 use Rattle.def_refusals.specs.declared.Refusal.TheVariants.{BadBlockLength, BadRecord, TooMany, Misleads}
 use Rattle.def_refusals.specs.declared.Checked.TheVariants.{Fine}
 use Rattle.def_refusals.specs.Answers.{shown, refused}

@@ -1,11 +1,9 @@
 -- Facts of def_jobs' Writing: 14, when an old reader is misled, and a writer's order 12, 14, 15, 11.
 -- RULES, "Job lists and writing" and "Refusal numbers".
-use Rattle.std.specs.Prelude.{ℕ, ◌≡◌, true, false, List, [], ◌∷◌, ◌++◌, map, replicate}
-use Rattle.def_refusals.specs.declared.Refusal.TheVariants.{NoBlock, NoRoom, NoPlace, BadRecord, TooMany, Misleads}
-use Rattle.def_refusals.specs.declared.Refusal.TheVariants.{BlockTooLong, BadBlockLength}
-use Rattle.def_refusals.specs.declared.Answer.TheVariants.{Done, Refused}
+use Rattle.std.specs.Prelude.{ℕ, ◌≡◌, true, false, List, [], ◌∷◌, ◌++◌}
+use Rattle.def_refusals.specs.declared.Refusal.TheVariants.{NoBlock, NoPlace, BadRecord, TooMany, Misleads}
 use Rattle.def_refusals.specs.declared.Checked.TheVariants.{Fine, Unfit}
-use Rattle.def_refusals.specs.Answers.{Or, shown, refused, Listed}
+use Rattle.def_refusals.specs.Answers.{Or, shown, refused}
 use Rattle.def_wire.specs.declared.Reading.TheVariants.{Standard, Crate}
 use Rattle.def_wire.specs.declared.Rle.TheVariants.{Loss}
 use Rattle.def_jobs.specs.declared.Layout.TheVariants.{Plain, Careful}
@@ -15,7 +13,7 @@ use Rattle.def_jobs.specs.Writing.{mislead_fault, packet_of}
 use Rattle.examples.specs.Standard.{echo}
 use Rattle.examples.specs.Vectors.{packet10, turned10}
 use Rattle.examples.specs.JobsShown.{a-time, an-echo}
-use Rattle.examples.specs.Rows.{fields, packet, padded, job, header, report, clock, echoes}
+use Rattle.examples.specs.Rows.{fields, packet, padded, header, report}
 
 pub record Fourteen : Type 0 where
   pub limits : (max_blocks ≡ 31) × (max_bytes ≡ 262144)

@@ -6,7 +6,7 @@ use Rattle.def_refusals.specs.declared.Refusal.TheVariants.{BlockTooLong, BadBlo
 use Rattle.def_refusals.specs.declared.Checked.{Checked}
 use Rattle.def_refusals.specs.declared.Checked.TheVariants.{Fine, Unfit}
 use Rattle.def_portions.specs.declared.Event.{Event}
-use Rattle.def_portions.specs.declared.Event.TheVariants.{Header, Start, Ranged as RangedStart, Number, Time, End}
+use Rattle.def_portions.specs.declared.Event.TheVariants.{Header, Start, Ranged as RangedStart, Number, End}
 use Rattle.def_portions.specs.Calls.{Call, call_of, past_fault}
 use Rattle.def_portions.specs.Lists.{keeps, puts, tag_of, number_part, value_part, tag_part, laid}
 use Rattle.examples.specs.Rows.{rows, packet, fields}

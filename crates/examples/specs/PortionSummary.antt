@@ -10,7 +10,6 @@ use Rattle.def_wire.specs.declared.JitterOr.TheVariants.{NoJitter}
 use Rattle.def_wire.specs.declared.HopsOr.TheVariants.{Unknown}
 use Rattle.def_wire.specs.declared.KindOr.TheVariants.{AKind}
 use Rattle.def_wire.specs.Summary.{byte_spread}
-use Rattle.def_portions.specs.declared.Event.{Event}
 use Rattle.def_portions.specs.declared.Event.TheVariants.{Header, Start, Ranged as RangedStart, Number, Summed, End}
 use Rattle.def_portions.specs.Events.{block_fault, block_events, course_of, course, clear_part, lost_fault}
 use Rattle.def_portions.specs.Calls.{call_of}

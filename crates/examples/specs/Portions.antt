@@ -1,6 +1,6 @@
 -- Facts of def_portions' Events: what the bytes of a packet that have come so far show.
 -- RULES, "Packets in portions".
-use Rattle.std.specs.Prelude.{ℕ, ◌≡◌, List, [], ◌∷◌, ◌++◌, map, take}
+use Rattle.std.specs.Prelude.{ℕ, ◌≡◌, List, [], ◌∷◌, map, take}
 use Rattle.def_refusals.specs.declared.Refusal.TheVariants.{TooShort, WrongVersion, WrongPacketType, Padded}
 use Rattle.def_refusals.specs.declared.Refusal.TheVariants.{BlockTooLong, BadBlockLength}
 use Rattle.def_refusals.specs.declared.Checked.TheVariants.{Fine, Unfit}
@@ -9,14 +9,12 @@ use Rattle.def_wire.specs.declared.Ranged.TheVariants.{Chunks, Times}
 use Rattle.def_wire.specs.declared.Kind.TheVariants.{Spans, Clock, Echoes}
 use Rattle.def_wire.specs.declared.KindOr.{KindOr}
 use Rattle.def_wire.specs.declared.KindOr.TheVariants.{AKind, NoKind}
-use Rattle.def_standard.specs.declared.Receipt.{Receipt}
-use Rattle.def_standard.specs.declared.Echo.{Echo}
 use Rattle.def_portions.specs.declared.Event.{Event}
 use Rattle.def_portions.specs.declared.Event.TheVariants.{Header, Start, Ranged as RangedStart, Number, Pair}
 use Rattle.def_portions.specs.declared.Event.TheVariants.{Entry, Time, End}
 use Rattle.def_portions.specs.Events.{head_fault, block_fault, block_events, blocks_from, course_of, course, quiet}
 use Rattle.def_portions.specs.Events.{clear_words, clear_part, lost_fault, block_then}
-use Rattle.examples.specs.Rows.{rows, packet, padded, fields}
+use Rattle.examples.specs.Rows.{rows, packet, fields}
 
 -- a number and its time; whose echo, last, delay; a clock time
 abbrev pub pair : ℕ → ℕ → Event

@@ -5,7 +5,7 @@
 --     job             a record of a job list: body length, kind, body
 --     header, report, receipts, clock, echoes     records of kinds 0; 1 and 2; 3; 4; 5. Sender 1, SSRC 7
 --     fields          the fields of a block of types 1 to 3
-use Rattle.std.specs.Prelude.{ℕ, ◌+◌, ◌*◌, ◌/◌, ◌%◌, ◌≡◌, List, [], ◌∷◌, ◌++◌, length}
+use Rattle.std.specs.Prelude.{ℕ, ◌+◌, ◌/◌, ◌%◌, ◌≡◌, List, [], ◌∷◌, ◌++◌, length}
 use Rattle.def_wire.specs.declared.Fields.{Fields}
 use Rattle.examples.specs.Vectors.{packet4, header_job, loss_job, echo_job, clock_job}
 

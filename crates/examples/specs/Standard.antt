@@ -3,7 +3,7 @@
 use Rattle.std.specs.Prelude.{ℕ, ◌≡◌, true, false, List, [], ◌∷◌, map, ltb, length, get_or}
 use Rattle.def_refusals.specs.declared.Refusal.TheVariants.{ValueTooLarge, NoRoom}
 use Rattle.def_refusals.specs.declared.Answer.TheVariants.{Done, Refused}
-use Rattle.def_refusals.specs.Answers.{Or, shown, refused, Listed}
+use Rattle.def_refusals.specs.Answers.{shown, refused, Listed}
 use Rattle.def_standard.specs.declared.Chunk.TheVariants.{Null, Skip, Run, Vector}
 use Rattle.def_standard.specs.declared.MadeWord.TheVariants.{Word, Unmade}
 use Rattle.def_standard.specs.declared.Range.{Range}

@@ -3,7 +3,7 @@
 use Rattle.std.specs.Prelude.{ℕ, ◌≡◌, List, [], ◌∷◌, replicate}
 use Rattle.def_refusals.specs.declared.Refusal.TheVariants.{TooShort, WrongVersion, BlockTooLong, NoBlock}
 use Rattle.def_refusals.specs.declared.Answer.TheVariants.{Done, Refused}
-use Rattle.def_refusals.specs.Answers.{Or, shown, refused}
+use Rattle.def_refusals.specs.Answers.{shown, refused}
 use Rattle.def_wire.specs.declared.Reading.TheVariants.{Standard, Crate}
 use Rattle.def_wire.specs.declared.Located.TheVariants.{At, Missing}
 use Rattle.def_wire.specs.Packet.{length_at, place_of, walk_from, count_of, locate, view_of}

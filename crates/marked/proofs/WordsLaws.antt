@@ -7,7 +7,7 @@
 --     words-nil, words-cons    the words of no marks, and of some
 --     by-words                 what holds of no marks, and of some where it holds behind their first word, holds
 --     words-few                a word for each 15 marks, and one for the rest
-use Prim.Native.Nat.{ℕ, zero, suc, ◌+◌, ◌*◌, ◌-◌, ◌≤◌, ◌<◌, min}
+use Prim.Native.Nat.{ℕ, zero, suc, ◌+◌, ◌*◌, ◌≤◌, ◌<◌, min}
 use mathlib.Core.Path.{◌≡◌, refl, ap, ◌∙◌}
 use mathlib.Core.Bool.{true}
 use mathlib.Core.List.{List, [], ◌∷◌}

@@ -1,7 +1,6 @@
 -- `chunk::chunk_of` meets its contract: one law for each kind of word. Assumes nothing.
 use mathlib.Core.Path.{sym, ap, ◌∙◌}
 use native.Mathlib.Omega.{arith}
-use borrow.Author.Rules.{rules}
 use Rattle.chunk.proofs.ChunkLaws.{chunk-null, chunk-skip, chunk-run, chunk-vector}
 use Rattle.def_standard.specs.declared.Chunk.TheVariants.{Skip, Run, Vector}
 use Rattle.chunk.proofs.chunk_of.Goals as goal

@@ -1,7 +1,6 @@
 -- `chunk::covers` meets its contract: by the word's kind. Assumes nothing.
 use mathlib.Core.Path.{sym, ◌∙◌}
 use native.Mathlib.Omega.{arith}
-use borrow.Author.Rules.{rules}
 use Rattle.chunk.proofs.ChunkLaws.{covers-run, covers-vector}
 use Rattle.chunk.proofs.covers.Goals as goal
 

@@ -2,7 +2,6 @@
 use Prim.Native.Nat.{◌-◌}
 use mathlib.Core.Path.{sym, ◌∙◌}
 use native.Mathlib.Omega.{arith}
-use borrow.Author.Rules.{rules}
 use Rattle.chunk.proofs.OnesLaws.{ones_before-skip, ones_before-run, ones_before-vector, ones-few}
 use Rattle.chunk.proofs.ones_before.Goals as goal
 

@@ -3,7 +3,6 @@ use Prim.Native.Nat.{◌/◌, ◌-◌, ◌^◌}
 use mathlib.Core.Path.{◌≡◌, ◌∙◌}
 use native.Mathlib.Omega.{arith}
 use lib.Bits.{and_mask}
-use borrow.Author.Rules.{rules}
 use Rattle.chunk.proofs.place_bit.Goals as goal
 
 pub returns-then-q-lt14 : goal.returns-then-q-lt14

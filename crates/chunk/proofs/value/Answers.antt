@@ -1,7 +1,6 @@
 -- `chunk::value` meets its contract: by the word's kind. Assumes nothing.
 use mathlib.Core.Path.{sym, ◌∙◌}
 use native.Mathlib.Omega.{arith}
-use borrow.Author.Rules.{rules}
 use Rattle.chunk.proofs.ChunkLaws.{value-run, value-vector}
 use Rattle.chunk.proofs.value.Goals as goal
 

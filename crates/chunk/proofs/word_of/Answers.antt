@@ -1,6 +1,5 @@
 -- `chunk::word_of` meets its contract: one law for each kind and each side of its limit. Assumes nothing.
 use mathlib.Core.Path.{sym, ap, ◌∙◌}
-use borrow.Author.Rules.{rules}
 use Rattle.chunk.proofs.ChunkLaws.{word-null, word-skip, word-run-none, word-run, word-vector}
 use Rattle.chunk.proofs.ChunkLaws.{word-skip-over, word-run-over, word-vector-over}
 use Rattle.def_standard.specs.Chunks.{word_of}

@@ -2,7 +2,6 @@
 use mathlib.Core.Path.{refl, sym, ap, ◌∙◌}
 use native.Mathlib.Omega.{arith}
 use lib.Seq.{sets-eq}
-use borrow.Author.Rules.{rules}
 use Rattle.laws.proofs.Answering.{listed, full, turned-away}
 use Rattle.def_standard.specs.Chunks.{word_bytes, bytes_of_made}
 use Rattle.def_wire.specs.Bytes.{two}

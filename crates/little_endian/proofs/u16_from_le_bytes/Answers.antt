@@ -2,7 +2,6 @@
 use mathlib.Core.Path.{sym}
 use native.Mathlib.Omega.{arith}
 use Rattle.little_endian.proofs.LowLaws.{le16-end, le16-past}
-use borrow.Author.Rules.{rules}
 use Rattle.little_endian.proofs.u16_from_le_bytes.Goals as goal
 
 pub returns-then-at-s : goal.returns-then-at-s

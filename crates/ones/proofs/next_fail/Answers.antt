@@ -1,6 +1,6 @@
 -- `ones::next_fail` meets its contract: by the laws of a moved start. Assumes nothing.
 use Rattle.range.proofs.NextLaws.{next-never, next-less}
-use Rattle.std.proofs.Common.{sym, ◌∙◌, arith, rules}
+use Rattle.std.proofs.Common.{sym, ◌∙◌, arith}
 use Rattle.ones.proofs.next_fail.Goals as goal
 
 pub returns-then-start-end : goal.returns-then-start-end

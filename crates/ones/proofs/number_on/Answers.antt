@@ -1,5 +1,5 @@
 -- `ones::number_on` meets its contract: nothing wraps on the way. Assumes nothing.
-use Rattle.std.proofs.Common.{◌*◌, ◌≤◌, mul-le-mul, arith, rules}
+use Rattle.std.proofs.Common.{◌*◌, ◌≤◌, mul-le-mul, arith}
 use Rattle.ones.proofs.number_on.Goals as goal
 use Rattle.ones.proofs.number_on.Goals.{Start}
 

@@ -1,5 +1,5 @@
 -- `ones::put_places` meets its contract: there is no room, or the word's storer has it. Assumes nothing.
-use Rattle.std.proofs.Common.{◌≡◌, ℕ, ◌+◌, ◌<◌, ◌≤◌, List, length, take, drop, ap, ◌∙◌, arith, rules}
+use Rattle.std.proofs.Common.{◌≡◌, ◌+◌, ◌<◌, ◌≤◌, length, take, drop, ap, ◌∙◌, arith}
 use Rattle.def_standard.specs.Chunks.{values_in}
 use Rattle.laws.proofs.Stores.{none}
 use Rattle.ones.specs.Along.{along}

@@ -2,7 +2,7 @@
 use Rattle.ones.proofs.StopLaws.{stop-zeros, stop-clear, stop-ones}
 use Rattle.range.specs.Failing.{first_fail}
 use Rattle.def_standard.specs.Chunks.{covers_of}
-use Rattle.std.proofs.Common.{◌<◌, ◌≤◌, sym, ◌∙◌, arith, rules}
+use Rattle.std.proofs.Common.{◌<◌, ◌≤◌, sym, ◌∙◌, arith}
 use Rattle.ones.proofs.stop_at.Goals as goal
 
 pub returns-then-covered-first : goal.returns-then-covered-first

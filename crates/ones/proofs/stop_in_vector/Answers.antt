@@ -1,6 +1,5 @@
 -- `ones::stop_in_vector` meets its contract: the first failing one is among those left in v. Assumes nothing.
-use Rattle.std.proofs.Common.{◌≡◌, ℕ, ◌+◌, ◌-◌, ◌^◌, ◌<◌, cond, sym, ap, ◌∙◌, arith, pow_pos, rules}
-
+use Rattle.std.proofs.Common.{◌≡◌, ◌+◌, ◌-◌, ◌^◌, cond, sym, ap, ◌∙◌, arith, pow_pos}
 use Rattle.def_crate.specs.Sequence.{passes, sequence_of}
 use Rattle.ones.specs.Stops.{stop_from, stop_at}
 use Rattle.ones.proofs.DigitLaws.{digits, digits_mod, digits-all, top_below, stop-none, stop-top}

@@ -1,10 +1,7 @@
 -- `ones::stop_in_vector` meets its contract: the first failing one is among those left in v. Assumes nothing.
-use Rattle.std.proofs.Common.{◌≡◌, ℕ, ◌+◌, ◌-◌, ◌^◌, ◌<◌, cond, sym, ap, ◌∙◌, arith, pow_pos, rules}
-use borrow.Author.Tests.{not-true, not-false}
-use Rattle.def_crate.specs.Sequence.{passes, sequence_of}
+use Rattle.std.proofs.Common.{◌≡◌, ◌^◌, ◌<◌}
 use Rattle.ones.specs.Stops.{stop_from, stop_at}
-use Rattle.ones.proofs.DigitLaws.{digits, digits_mod, digits-all, top_below, stop-none, stop-top}
-use Rattle.range.proofs.SequenceLaws.{moved-sequence}
+use Rattle.ones.proofs.DigitLaws.{digits}
 use Rattle.ones.proofs.stop_in_vector.Given as goal
 
 abbrev pub invariant-loop-v : goal.invariant-loop-v

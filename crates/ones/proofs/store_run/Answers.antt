@@ -1,10 +1,10 @@
 -- `ones::store_run` meets its contract: what is still to be stored is the progression from the next number on.
 -- Assumes nothing.
-use Rattle.std.proofs.Common.{◌≡◌, ◌-◌, ◌≤◌, ◌∷◌, ap, ◌∙◌, arith, rules}
+use Rattle.std.proofs.Common.{◌≡◌, ◌-◌, ◌∷◌, ap, ◌∙◌, arith}
 use Rattle.range.specs.Steps.{onward}
 use Rattle.ones.specs.Along.{progression, past}
 use Rattle.ones.proofs.ListingLaws.{length-progression, progression-cons, progression-none, past-none, past_more}
-use Rattle.laws.proofs.Filling.{Storing, start, within, put, ended}
+use Rattle.laws.proofs.Filling.{start, within, put, ended}
 use Rattle.ones.proofs.store_run.Goals as goal
 use Rattle.ones.proofs.store_run.Goals.{In-loop-left}
 

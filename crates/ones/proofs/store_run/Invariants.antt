@@ -1,10 +1,8 @@
 -- `ones::store_run` meets its contract: what is still to be stored is the progression from the next number on.
 -- Assumes nothing.
-use Rattle.std.proofs.Common.{◌≡◌, ◌-◌, ◌≤◌, ◌∷◌, ap, ◌∙◌, arith, rules}
-use Rattle.range.specs.Steps.{onward}
+use Rattle.std.proofs.Common.{◌≡◌, ◌-◌, ◌≤◌}
 use Rattle.ones.specs.Along.{progression, past}
-use Rattle.ones.proofs.ListingLaws.{length-progression, progression-cons, progression-none, past-none, past_more}
-use Rattle.laws.proofs.Filling.{Storing, start, within, put, ended}
+use Rattle.laws.proofs.Filling.{Storing}
 use Rattle.ones.proofs.store_run.Given as goal
 
 abbrev pub invariant-loop-left : goal.invariant-loop-left

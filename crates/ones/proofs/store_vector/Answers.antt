@@ -1,10 +1,9 @@
 -- `ones::store_vector` meets its contract: what is still to be stored are the numbers of the ones left in v.
 -- Assumes nothing.
-use Rattle.std.proofs.Common.{◌≡◌, ◌+◌, ◌-◌, ◌*◌, ◌%◌, ◌^◌, ◌<◌, ◌∷◌, take, ap, arith, pow_pos, shr_lt, rules}
-use Rattle.def_standard.specs.Chunks.{values_in}
+use Rattle.std.proofs.Common.{◌≡◌, ◌+◌, ◌-◌, ◌*◌, ◌%◌, ◌^◌, ◌<◌, ◌∷◌, ap, arith, pow_pos, shr_lt}
 use Rattle.ones.specs.Along.{along}
 use Rattle.ones.proofs.DigitLaws.{digits, digits-vector, top_below, along-none, along-top}
-use Rattle.laws.proofs.Filling.{Storing, start, skip, within, put, ended}
+use Rattle.laws.proofs.Filling.{start, skip, within, put, ended}
 use Rattle.ones.proofs.store_vector.Goals as goal
 use Rattle.ones.proofs.store_vector.Goals.{After-top_bit-j}
 

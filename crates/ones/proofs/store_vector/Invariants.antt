@@ -1,10 +1,10 @@
 -- `ones::store_vector` meets its contract: what is still to be stored are the numbers of the ones left in v.
 -- Assumes nothing.
-use Rattle.std.proofs.Common.{◌≡◌, ◌+◌, ◌-◌, ◌*◌, ◌%◌, ◌^◌, ◌<◌, ◌∷◌, take, ap, arith, pow_pos, shr_lt, rules}
+use Rattle.std.proofs.Common.{◌^◌, ◌<◌, take}
 use Rattle.def_standard.specs.Chunks.{values_in}
 use Rattle.ones.specs.Along.{along}
-use Rattle.ones.proofs.DigitLaws.{digits, digits-vector, top_below, along-none, along-top}
-use Rattle.laws.proofs.Filling.{Storing, start, skip, within, put, ended}
+use Rattle.ones.proofs.DigitLaws.{digits}
+use Rattle.laws.proofs.Filling.{Storing}
 use Rattle.ones.proofs.store_vector.Given as goal
 
 abbrev pub invariant-loop-v : goal.invariant-loop-v

@@ -2,7 +2,7 @@
 use Rattle.ones.proofs.WordLaws.{word-zeros, word_ones, word-vector}
 use Rattle.ones.proofs.ListingLaws.{length-progression}
 use Rattle.laws.proofs.Stores.{none}
-use Rattle.std.proofs.Common.{◌%◌, min, length, ap, arith, rules}
+use Rattle.std.proofs.Common.{◌%◌, min, length, ap, arith}
 use Rattle.ones.proofs.store_word.Goals as goal
 
 pub returns-then-w-lt16384 : goal.returns-then-w-lt16384
@@ -22,10 +22,10 @@ returns-then-w-lt32768 c = let a = c.args in
 
 pub store_vector-requires : goal.store_vector-requires
 store_vector-requires c = let a = c.args in (
-      c.if-w-lt32768.false,
-      omega arith,
-      rw (c.lesser.ensures, word-vector a.step a.first a.room a.w c.if-w-lt32768.false) c.requires,
-    )
+  c.if-w-lt32768.false,
+  omega arith,
+  rw (c.lesser.ensures, word-vector a.step a.first a.room a.w c.if-w-lt32768.false) c.requires,
+)
 
 pub returns : goal.returns
 returns c = let a = c.args in

@@ -1,5 +1,5 @@
 -- `ones::weight` meets its contract: by the word's kind. Assumes nothing.
-use Rattle.std.proofs.Common.{rules, le-ltb, lt-ltb}
+use Rattle.std.proofs.Common.{le-ltb, lt-ltb}
 use Rattle.ones.proofs.weight.Goals as goal
 
 pub returns-then-w-lt16384 : goal.returns-then-w-lt16384

@@ -1,6 +1,6 @@
 -- `ones::without_top` meets its contract: the shift does not wrap. Assumes nothing.
 use Rattle.ones.proofs.DigitLaws.{top_below}
-use Rattle.std.proofs.Common.{arith, rules}
+use Rattle.std.proofs.Common.{arith}
 use Rattle.ones.proofs.without_top.Goals as goal
 
 pub overflow_cast-result : goal.overflow_cast-result

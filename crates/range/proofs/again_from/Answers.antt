@@ -1,5 +1,5 @@
 -- `range::again_from` meets its contract: by the test of start and end. Assumes nothing.
-use Rattle.std.proofs.Common.{rules, le-ltb, lt-ltb}
+use Rattle.std.proofs.Common.{le-ltb, lt-ltb}
 use Rattle.range.proofs.again_from.Goals as goal
 
 pub returns-then-start-end : goal.returns-then-start-end

@@ -1,6 +1,6 @@
 -- `range::ceil_shift` meets its contract: rounding up, by rounding down. Assumes nothing.
 use Rattle.range.proofs.InsideLaws.{ceil-zero, ceil-pos}
-use Rattle.std.proofs.Common.{◌-◌, ◌^◌, ◌<◌, ◌≤◌, sym, ◌∙◌, arith, pow_pos, pow_mono, rules}
+use Rattle.std.proofs.Common.{◌-◌, ◌^◌, ◌<◌, ◌≤◌, sym, ◌∙◌, arith, pow_pos, pow_mono}
 use lib.Pow.{shr_le}
 use native.Mathlib.Nat.{div-eq_of_lt}
 use Rattle.range.proofs.ceil_shift.Goals as goal

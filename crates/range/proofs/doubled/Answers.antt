@@ -1,5 +1,5 @@
 -- `range::doubled` meets its contract: 16 bits of the product in 64 bits. Assumes nothing.
-use Rattle.std.proofs.Common.{ℕ, ◌%◌, ap, ◌∙◌, rules}
+use Rattle.std.proofs.Common.{ℕ, ◌%◌, ap, ◌∙◌}
 use Rattle.range.proofs.SequenceLaws.{doubled_of-wide}
 use Rattle.range.proofs.doubled.Goals as goal
 

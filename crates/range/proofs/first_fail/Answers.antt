@@ -2,7 +2,7 @@
 use Rattle.range.proofs.FailLaws.{first-is, first-never, first-nowhere, first_fits}
 use Rattle.range.specs.Failing.{gap_of}
 use Rattle.range.specs.Inside.{ceil_div}
-use Rattle.std.proofs.Common.{◌≡◌, ◌*◌, ◌^◌, ◌∙◌, arith, rules}
+use Rattle.std.proofs.Common.{◌≡◌, ◌*◌, ◌^◌, ◌∙◌, arith}
 use Rattle.range.proofs.first_fail.Goals as goal
 use Rattle.range.proofs.first_fail.Goals.{After-again_from}
 

@@ -1,5 +1,5 @@
 -- `range::grid_from` meets its contract: begin rounded up, which 64 bits hold. Assumes nothing.
-use Rattle.std.proofs.Common.{ℕ, ◌*◌, ◌%◌, ◌^◌, ◌<◌, sym, ap, ◌∙◌, arith, pow_pos, shl_exact, rules}
+use Rattle.std.proofs.Common.{ℕ, ◌*◌, ◌%◌, ◌^◌, ◌<◌, sym, ap, ◌∙◌, arith, pow_pos, shl_exact}
 use Rattle.range.specs.Inside.{ceil_div}
 use Rattle.range.proofs.InsideLaws.{ceil-le}
 use Rattle.range.proofs.GridLaws.{grid-sum}

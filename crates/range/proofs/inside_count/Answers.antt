@@ -1,6 +1,5 @@
 -- `range::inside_count` meets its contract: it is the division rounded up. Assumes nothing.
 use Rattle.range.specs.Inside.{inside_count}
-use Rattle.std.proofs.Common.{rules}
 use Rattle.range.proofs.inside_count.Goals as goal
 
 pub returns : goal.returns

@@ -2,7 +2,7 @@
 use Rattle.def_standard.specs.Range.{number_of, offset_of}
 use lib.Pow.{mod-mod-pow}
 use native.Mathlib.Nat.{add-mod-mod}
-use Rattle.std.proofs.Common.{◌*◌, ◌^◌, rules}
+use Rattle.std.proofs.Common.{◌*◌, ◌^◌}
 use Rattle.range.proofs.number_at.Goals as goal
 
 pub returns : goal.returns

@@ -1,8 +1,7 @@
 -- `range::range_of` meets its contract: the grid's first number, and what is left from there on. Assumes nothing.
-use Rattle.std.proofs.Common.{◌≡◌, ℕ, ◌+◌, ◌-◌, min, ap, ◌∙◌, arith, rules}
+use Rattle.std.proofs.Common.{◌≡◌, ℕ, ◌+◌, ◌-◌, min, ap, ◌∙◌, arith}
 use Rattle.def_standard.specs.Range.{ahead_of}
 use Rattle.range.proofs.GridLaws.{range-from}
-
 -- the first number on the grid that was found
 use Rattle.range.proofs.range_of.Goals as goal
 use Rattle.range.proofs.range_of.Goals.{After-grid_from-first}

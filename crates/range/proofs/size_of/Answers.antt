@@ -1,5 +1,5 @@
 -- `range::size_of` meets its contract: by the test of begin and end. Assumes nothing.
-use Rattle.std.proofs.Common.{rules, eq-eqb, ne_eqb}
+use Rattle.std.proofs.Common.{eq-eqb, ne_eqb}
 use Rattle.range.proofs.size_of.Goals as goal
 
 pub returns-then-begin-end : goal.returns-then-begin-end

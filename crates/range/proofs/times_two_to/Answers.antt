@@ -1,5 +1,5 @@
 -- `range::times_two_to` meets its contract: a shift by less than 64 is the product; by more, nothing. Assumes nothing.
-use Rattle.std.proofs.Common.{sym, rules}
+use Rattle.std.proofs.Common.{sym}
 use Rattle.range.proofs.SequenceLaws.{shl-away}
 use Rattle.range.proofs.times_two_to.Goals as goal
 

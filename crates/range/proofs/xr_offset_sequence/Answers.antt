@@ -1,8 +1,7 @@
 -- `range::xr_offset_sequence` meets its contract: the sum that is tested is the definition's. Assumes nothing.
-use Rattle.std.proofs.Common.{◌≡◌, sym, ◌∙◌, rules}
+use Rattle.std.proofs.Common.{◌≡◌, sym, ◌∙◌}
 use Rattle.range.proofs.SequenceLaws.{offset-passes, offset-fails}
 use Rattle.def_crate.specs.Sequence.{sequence_of, passes}
-
 -- the number that is tested is the definition's
 use Rattle.range.proofs.xr_offset_sequence.Goals as goal
 use Rattle.range.proofs.xr_offset_sequence.Goals.{After-passes}

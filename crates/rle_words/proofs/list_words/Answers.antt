@@ -1,10 +1,6 @@
 -- `rle_words::list::list_words` meets its contract: the loop fills from the front. Assumes nothing.
-use Prim.Native.Nat.{◌-◌, ◌≤◌}
 use native.Mathlib.Omega.{arith}
-use borrow.Author.Rules.{rules}
-use lib.ListN.{length, drop}
-use Rattle.def_wire.specs.Bytes.{words16}
-use Rattle.laws.proofs.Filling.{Filling, start, within, put, done}
+use Rattle.laws.proofs.Filling.{start, within, put, done}
 use Rattle.rle_words.proofs.Turn.{words-cons, words-end}
 use Rattle.rle_words.proofs.list_words.Goals as goal
 

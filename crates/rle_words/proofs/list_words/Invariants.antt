@@ -1,11 +1,8 @@
 -- `rle_words::list::list_words` meets its contract: the loop fills from the front. Assumes nothing.
 use Prim.Native.Nat.{◌-◌, ◌≤◌}
-use native.Mathlib.Omega.{arith}
-use borrow.Author.Rules.{rules}
 use lib.ListN.{length, drop}
 use Rattle.def_wire.specs.Bytes.{words16}
-use Rattle.laws.proofs.Filling.{Filling, start, within, put, done}
-use Rattle.rle_words.proofs.Turn.{words-cons, words-end}
+use Rattle.laws.proofs.Filling.{Filling}
 use Rattle.rle_words.proofs.list_words.Given as goal
 
 abbrev pub invariant-loop-at : goal.invariant-loop-at

@@ -1,5 +1,4 @@
 -- `stats::jitter_of` meets its contract.
-use borrow.Author.Rules.{rules}
 use Rattle.stats.proofs.jitter_of.Goals as goal
 
 pub returns-in-NoJitter : goal.returns-in-NoJitter

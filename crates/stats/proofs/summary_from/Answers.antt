@@ -1,5 +1,4 @@
 -- `stats::summary_from` meets its contract: each number by its own flag.
-use borrow.Author.Rules.{rules}
 use Rattle.def_wire.specs.Summary.{summary_from}
 use Rattle.stats.proofs.summary_from.Goals as goal
 

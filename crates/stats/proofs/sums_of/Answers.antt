@@ -1,5 +1,4 @@
 -- `stats::sums_of` meets its contract: each number, 0 where it is absent.
-use borrow.Author.Rules.{rules}
 use Rattle.def_wire.specs.Summary.{sums_of}
 use Rattle.stats.proofs.sums_of.Goals as goal
 

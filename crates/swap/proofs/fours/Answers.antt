@@ -1,10 +1,6 @@
 -- `swap::fours` meets its contract: fours of 16-bit numbers.
-use Prim.Native.Nat.{◌-◌}
-use lib.ListN.{length}
-use borrow.Author.Rules.{rules}
-use Rattle.swap.specs.Swapped.{swapped16}
 use Rattle.swap.proofs.SwapLaws.{fours}
-use Rattle.swap.proofs.Turn.{Going, going-room, going_next}
+use Rattle.swap.proofs.Turn.{going-room, going_next}
 use Rattle.swap.proofs.fours.Goals as goal
 
 pub put_words4-requires : goal.put_words4-requires

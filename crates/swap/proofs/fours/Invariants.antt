@@ -1,15 +1,13 @@
 -- `swap::fours` meets its contract: fours of 16-bit numbers.
 use Prim.Native.Nat.{◌-◌}
 use lib.ListN.{length}
-use borrow.Author.Rules.{rules}
 use Rattle.swap.specs.Swapped.{swapped16}
-use Rattle.swap.proofs.SwapLaws.{fours}
-use Rattle.swap.proofs.Turn.{Going, going-room, going_next}
+use Rattle.swap.proofs.Turn.{Going}
 use Rattle.swap.proofs.fours.Given as goal
 
 abbrev pub invariant-loop-k : goal.invariant-loop-k
 invariant-loop-k l =
-    Going swapped16 l.body l.from l.out l.initial.at l.at l.k l.n
+    Going swapped16 l.body l.from l.initial.out l.at l.out l.k l.n
 
 abbrev pub decreases-loop-k : goal.decreases-loop-k
 decreases-loop-k l =

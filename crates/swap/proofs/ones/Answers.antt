@@ -1,11 +1,7 @@
 -- `swap::ones` meets its contract: 16-bit numbers one by one.
 use native.Mathlib.Omega.{arith}
-use Prim.Native.Nat.{◌-◌}
-use lib.ListN.{length}
-use borrow.Author.Rules.{rules}
-use Rattle.swap.specs.Swapped.{swapped16}
 use Rattle.swap.proofs.SwapLaws.{words, swapped16-end}
-use Rattle.swap.proofs.Turn.{Going, going-room, going_next, going-ended}
+use Rattle.swap.proofs.Turn.{going-room, going_next, going-ended}
 use Rattle.swap.proofs.ones.Goals as goal
 
 pub put_word-requires : goal.put_word-requires

@@ -1,10 +1,6 @@
 -- `swap::pairs` meets its contract: pairs of 32-bit numbers.
-use Prim.Native.Nat.{◌-◌}
-use lib.ListN.{length}
-use borrow.Author.Rules.{rules}
-use Rattle.swap.specs.Swapped.{swapped32}
 use Rattle.swap.proofs.SwapLaws.{pairs}
-use Rattle.swap.proofs.Turn.{Going, going-room, going_next}
+use Rattle.swap.proofs.Turn.{going-room, going_next}
 use Rattle.swap.proofs.pairs.Goals as goal
 
 pub put_numbers2-requires : goal.put_numbers2-requires

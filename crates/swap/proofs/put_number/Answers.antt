@@ -5,7 +5,6 @@ use lib.ListN.{length-set}
 use lib.Seq.{sets}
 use Prim.Native.Nat.{◌+◌, suc}
 use mathlib.Core.Path.{◌≡◌, sym, ap}
-use borrow.Author.Rules.{rules}
 use Rattle.swap.proofs.SwapLaws.{four_bytes}
 use Rattle.swap.proofs.put_number.Goals as goal
 
@@ -16,7 +15,7 @@ returns c = let a = c.args in
     let e4 : a.k + 3 ≡ a.k + 2 + 1 = omega arith in
     rw (e4, add-one a.n, e2, e3)
     (ap (sets a.out.now a.n)
-    (sym (four_bytes a.body.now (λ i. (c.shared_slice_known-1.given i).fits) a.k)))
+    (sym (four_bytes a.body.now (λ i. (c.type_inv.body i).fits) a.k)))
 
 pub bounds-out-n-2 : goal.bounds-out-n-2
 bounds-out-n-2 c = simp length-set (omega arith)

@@ -4,14 +4,13 @@ use native.Mathlib.Omega.{arith}
 use lib.ListN.{length-set}
 use lib.Seq.{sets}
 use mathlib.Core.Path.{sym, ap}
-use borrow.Author.Rules.{rules}
 use Rattle.swap.proofs.SwapLaws.{two_bytes}
 use Rattle.swap.proofs.put_word.Goals as goal
 
 pub returns : goal.returns
 returns c = let a = c.args in
     rw (add-one a.n)
-    (ap (sets a.out.now a.n) (sym (two_bytes a.body.now (λ i. (c.shared_slice_known-1.given i).fits) a.k)))
+    (ap (sets a.out.now a.n) (sym (two_bytes a.body.now (λ i. (c.type_inv.body i).fits) a.k)))
 
 pub bounds-out-n-2 : goal.bounds-out-n-2
 bounds-out-n-2 c = simp length-set (omega arith)

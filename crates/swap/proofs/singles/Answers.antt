@@ -1,11 +1,7 @@
 -- `swap::singles` meets its contract: 32-bit numbers one by one.
 use native.Mathlib.Omega.{arith}
-use Prim.Native.Nat.{◌-◌}
-use lib.ListN.{length}
-use borrow.Author.Rules.{rules}
-use Rattle.swap.specs.Swapped.{swapped32}
 use Rattle.swap.proofs.SwapLaws.{numbers, swapped32-end}
-use Rattle.swap.proofs.Turn.{Going, going-room, going_next, going-ended}
+use Rattle.swap.proofs.Turn.{going-room, going_next, going-ended}
 use Rattle.swap.proofs.singles.Goals as goal
 
 pub put_number-requires : goal.put_number-requires

@@ -1,6 +1,5 @@
 -- `swap::swap16` meets its contract: 16-bit numbers, eight bytes at a time and then one by one.
 use mathlib.Core.Path.{◌∙◌}
-use borrow.Author.Rules.{rules}
 use Rattle.swap.proofs.swap16.Goals as goal
 
 pub returns : goal.returns

@@ -1,6 +1,5 @@
 -- `swap::swap32` meets its contract: 32-bit numbers, eight bytes at a time and then one by one.
 use mathlib.Core.Path.{◌∙◌}
-use borrow.Author.Rules.{rules}
 use Rattle.swap.proofs.swap32.Goals as goal
 
 pub returns : goal.returns

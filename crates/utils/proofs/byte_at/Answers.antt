@@ -1,5 +1,5 @@
 -- `utils::byte_at` meets its contract: past the end it is 0. Assumes nothing.
-use Rattle.std.proofs.Common.{sym, rules}
+use Rattle.std.proofs.Common.{sym}
 use Rattle.utils.proofs.BytesLaws.{byte_at-past}
 use Rattle.utils.proofs.byte_at.Goals as goal
 

@@ -1,5 +1,5 @@
 -- `utils::halves16` meets its contract: past the end it is 0. Assumes nothing.
-use Rattle.std.proofs.Common.{sym, rules}
+use Rattle.std.proofs.Common.{sym}
 use Rattle.utils.proofs.BytesLaws.{be16-past}
 use Rattle.utils.proofs.halves16.Goals as goal
 

@@ -1,5 +1,5 @@
 -- `utils::halves64` meets its contract: past the end it is 0. Assumes nothing.
-use Rattle.std.proofs.Common.{sym, rules}
+use Rattle.std.proofs.Common.{sym}
 use Rattle.utils.proofs.BytesLaws.{be64-past}
 use Rattle.utils.proofs.halves64.Goals as goal
 

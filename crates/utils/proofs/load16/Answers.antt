@@ -1,5 +1,4 @@
 -- `utils::load16` meets its contract: the first byte is worth more. Assumes nothing.
-use Rattle.std.proofs.Common.{rules}
 use Rattle.utils.proofs.load16.Goals as goal
 
 pub returns : goal.returns

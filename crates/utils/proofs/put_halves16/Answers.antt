@@ -1,5 +1,5 @@
 -- `utils::put_halves16` meets its contract: both bytes, the last byte, or past the end. Assumes nothing.
-use Rattle.std.proofs.Common.{sym, add-one, length-set, rules}
+use Rattle.std.proofs.Common.{sym, add-one, length-set}
 use Rattle.utils.proofs.StoresLaws.{sets-out, sets_last}
 use Rattle.def_wire.specs.Bytes.{two}
 use Rattle.utils.proofs.put_halves16.Goals as goal

@@ -1,5 +1,5 @@
 -- `utils::put_halves32` meets its contract: the high half, then the low half; past the end nothing. Assumes nothing.
-use Rattle.std.proofs.Common.{sym, rules}
+use Rattle.std.proofs.Common.{sym}
 use Rattle.utils.proofs.StoresLaws.{sets-out, sets-four}
 use Rattle.def_wire.specs.Bytes.{four}
 use Rattle.utils.proofs.put_halves32.Goals as goal

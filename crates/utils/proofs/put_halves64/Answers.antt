@@ -1,5 +1,5 @@
 -- `utils::put_halves64` meets its contract: the high half, then the low half; past the end nothing. Assumes nothing.
-use Rattle.std.proofs.Common.{sym, rules}
+use Rattle.std.proofs.Common.{sym}
 use Rattle.utils.proofs.StoresLaws.{sets-out, sets-eight}
 use Rattle.def_wire.specs.Bytes.{eight}
 use Rattle.utils.proofs.put_halves64.Goals as goal

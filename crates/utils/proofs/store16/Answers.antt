@@ -1,5 +1,5 @@
 -- `utils::store16` meets its contract: two stores in a row. Assumes nothing.
-use Rattle.std.proofs.Common.{add-one, arith, length-set, rules}
+use Rattle.std.proofs.Common.{add-one, arith, length-set}
 use Rattle.utils.proofs.store16.Goals as goal
 
 pub bounds-out-at-2 : goal.bounds-out-at-2

@@ -1,5 +1,4 @@
 -- `utils::store32` meets its contract: the high half, then the low half. Assumes nothing.
-use Rattle.std.proofs.Common.{rules}
 use Rattle.utils.proofs.StoresLaws.{sets-four}
 use Rattle.utils.proofs.store32.Goals as goal
 

@@ -1,5 +1,4 @@
 -- `utils::store64` meets its contract: the high half, then the low half. Assumes nothing.
-use Rattle.std.proofs.Common.{rules}
 use Rattle.utils.proofs.StoresLaws.{sets-eight}
 use Rattle.utils.proofs.store64.Goals as goal
 

@@ -1,6 +1,5 @@
 -- `xr::at_place` meets its contract.
 use Rattle.xr.proofs.WalkLaws.{size-standard, size-crate}
-use borrow.Author.Rules.{rules}
 use Rattle.xr.proofs.at_place.Goals as goal
 
 pub returns-in-Standard : goal.returns-in-Standard

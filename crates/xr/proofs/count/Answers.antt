@@ -2,7 +2,6 @@
 use mathlib.Core.Path.{sym, ◌∙◌}
 use Rattle.xr.proofs.HeaderLaws.{header-fine}
 use Rattle.xr.proofs.WalkLaws.{count-walked, count-refused}
-use borrow.Author.Rules.{rules}
 use Rattle.xr.proofs.count.Goals as goal
 
 pub walk-w-requires : goal.walk-w-requires

@@ -7,7 +7,6 @@ use Rattle.def_wire.specs.Packet.{size_at}
 use Rattle.def_wire.specs.declared.Located.TheVariants.{At}
 use Rattle.xr.proofs.HeaderLaws.{Fine, header-fine}
 use Rattle.xr.proofs.WalkLaws.{found-done, found_none, found-cut, found-located, walk-within, place-zero}
-use borrow.Author.Rules.{rules}
 use Rattle.xr.proofs.find.Goals as goal
 use Rattle.xr.proofs.find.Goals.{Start}
 

@@ -1,17 +1,14 @@
 -- `xr::header` meets its contract: each way out cites a law of `header_of`, with the tests that led there.
-use Prim.Native.Nat.{ℕ, ◌≤◌}
+use Prim.Native.Nat.{◌≤◌}
 use mathlib.Core.Path.{◌≡◌, sym, ◌∙◌, ap}
-use mathlib.Core.List.{List}
 use native.Mathlib.Omega.{arith}
 use lib.ListN.{length}
 use Rattle.def_refusals.specs.declared.Answer.TheVariants.{Done}
-use Rattle.def_wire.specs.declared.Reading.{Reading}
 use Rattle.def_wire.specs.Packet.{least_of, announced_of, padding_of, stop_of, header_of, is_bad_padding}
 use mathlib.Core.Bool.{false}
 use Rattle.xr.proofs.HeaderLaws.{least-ge, header-short, header-version, header-type, header-length}
 use Rattle.xr.proofs.HeaderLaws.{header-padding, header-padded, header-plain, stop-plain, stop-standard}
 use Rattle.xr.proofs.HeaderLaws.{stop-crate, good-padding}
-use borrow.Author.Rules.{rules}
 use Rattle.xr.proofs.header.Goals as goal
 use Rattle.xr.proofs.header.Goals.{Else-is_bad_padding, Else-s-fewest, Else-says-s}
 
@@ -86,11 +83,11 @@ returns-then-is_bad_padding c = rw c.wide8-n.ensures.0
 
 pub overflow_sub-result : goal.overflow_sub-result
 overflow_sub-result c = omega (
-      arith,
-      c.wide8-n.ensures.0,
-      (good-padding (padding_of c.args.s.now) (length c.args.s.now)
-          (good (goal.at.overflow_sub-result c).Else-is_bad_padding)).1,
-    )
+  arith,
+  c.wide8-n.ensures.0,
+  (good-padding (padding_of c.args.s.now) (length c.args.s.now)
+      (good (goal.at.overflow_sub-result c).Else-is_bad_padding)).1,
+)
 
 pub returns-in-Standard : goal.returns-in-Standard
 returns-in-Standard c = ap Done (stop-standard c.args.r c.args.s.now c.wide8-n.result c.in-Standard.is

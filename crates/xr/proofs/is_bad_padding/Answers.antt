@@ -1,6 +1,5 @@
 -- `xr::is_bad_padding` meets its contract.
 use borrow.Author.Tests.{eq-eqb, ne_eqb}
-use borrow.Author.Rules.{rules}
 use Rattle.xr.proofs.is_bad_padding.Goals as goal
 
 pub returns-then-n-eq0 : goal.returns-then-n-eq0

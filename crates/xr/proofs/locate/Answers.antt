@@ -1,7 +1,6 @@
 -- `xr::locate` meets its contract: the header refuses, or the block is looked for.
 use mathlib.Core.Path.{sym, ◌∙◌}
 use Rattle.xr.proofs.WalkLaws.{located-refused}
-use borrow.Author.Rules.{rules}
 use Rattle.xr.proofs.locate.Goals as goal
 
 pub find-requires : goal.find-requires

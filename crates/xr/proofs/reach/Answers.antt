@@ -1,8 +1,5 @@
 -- `xr::reach` meets its contract: block n is where it stands, and each need cites a law of one turn.
-use Prim.Native.Nat.{◌-◌, ◌≤◌}
 use native.Mathlib.Omega.{arith}
-use borrow.Author.Rules.{rules}
-use Rattle.xr.specs.Walks.{Walking}
 use Rattle.xr.proofs.WalkTurn.{begun, turned, cut, reached, unreached}
 use Rattle.xr.proofs.reach.Goals as goal
 
@@ -16,13 +13,13 @@ returns-then-stop-at c = let a = c.args in
 
 pub length_at-len-requires : goal.length_at-len-requires
 length_at-len-requires c = omega (
-      arith,
-      c.loop-n.invariant.0.word,
-      c.loop-n.invariant.0.before,
-      c.requires.0,
-      c.requires.1,
-      c.if-stop-at.false,
-    )
+  arith,
+  c.loop-n.invariant.0.word,
+  c.loop-n.invariant.0.before,
+  c.requires.0,
+  c.requires.1,
+  c.if-stop-at.false,
+)
 
 pub returns-then-stop-at-2 : goal.returns-then-stop-at-2
 returns-then-stop-at-2 c = let a = c.args in

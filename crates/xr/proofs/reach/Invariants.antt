@@ -1,9 +1,6 @@
 -- `xr::reach` meets its contract: block n is where it stands, and each need cites a law of one turn.
 use Prim.Native.Nat.{◌-◌, ◌≤◌}
-use native.Mathlib.Omega.{arith}
-use borrow.Author.Rules.{rules}
 use Rattle.xr.specs.Walks.{Walking}
-use Rattle.xr.proofs.WalkTurn.{begun, turned, cut, reached, unreached}
 use Rattle.xr.proofs.reach.Given as goal
 
 abbrev pub invariant-loop-n : goal.invariant-loop-n

@@ -1,6 +1,5 @@
 -- `xr::walk` meets its contract: the walk to where the blocks end, noting where block k begins.
 use Rattle.xr.proofs.WalkTurn.{walked, walked-cut}
-use borrow.Author.Rules.{rules}
 use Rattle.xr.proofs.walk.Goals as goal
 
 pub walk_on-requires : goal.walk_on-requires

@@ -1,11 +1,7 @@
 -- `xr::walk_on` meets its contract: block n is where it stands, and each need cites a law of one turn.
-use Prim.Native.Nat.{◌+◌, ◌-◌, ◌≤◌, ◌<◌}
+use Prim.Native.Nat.{◌+◌}
 use mathlib.Core.Path.{◌≡◌}
-use native.Mathlib.Omega.{arith}
-use borrow.Author.Rules.{rules}
-use Rattle.def_wire.specs.Packet.{length_at}
 use Rattle.xr.specs.Walks.{Walking}
-use Rattle.xr.proofs.WalkTurn.{turned, cut, ended}
 use Rattle.xr.proofs.walk_on.Given as goal
 
 abbrev pub invariant-loop-left : goal.invariant-loop-left

@@ -1,7 +1,6 @@
 -- `xr::Xr::parse` meets its contract.
 use mathlib.Core.Path.{sym, ◌∙◌}
 use Rattle.xr.specs.Parsed.{parsed_of}
-use borrow.Author.Rules.{rules}
 use Rattle.xr.proofs.Xr.parse.Goals as goal
 
 pub returns-in-Done : goal.returns-in-Done

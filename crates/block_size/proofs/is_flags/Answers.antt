@@ -1,0 +1,9 @@
+-- `block_size::is_flags` meets its contract.
+use borrow.Author.Tests.{eq-eqb, ne_eqb}
+use Rattle.block_size.proofs.is_flags.Goals as goal
+
+pub returns-then-flags-ne0 : goal.returns-then-flags-ne0
+returns-then-flags-ne0 c = rw (ne_eqb _ _ c.if-flags-ne0.true)
+
+pub returns : goal.returns
+returns c = rw (eq-eqb _ _ c.if-flags-ne0.false)
