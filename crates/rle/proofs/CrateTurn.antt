@@ -24,6 +24,13 @@ use Rattle.ones.proofs.StopLaws.{stop-zeros}
 use Rattle.rle.proofs.CrateLaws.{crate-nil, crate-cons, length-crate, most-nil, most-cons, most-le}
 use Rattle.rle_words.proofs.Turn.{words-end, words-cons, Turn, next}
 
+-- where the word at an index stops, and what is to be listed behind it
+abbrev pub stop : ℕ → ℕ → List ℕ → ℕ → ℕ → ℕ
+stop end t bytes at start = stop_at start end t (be16 bytes at)
+
+abbrev pub rest : ℕ → ℕ → List ℕ → ℕ → ℕ → List ℕ
+rest end t bytes at start = here end t bytes (at + 2) (moved_by (covers_of (be16 bytes at)) t start)
+
 -- the numbers of one word
 abbrev pub added : ℕ → ℕ → ℕ → ℕ → List ℕ
 added end t w start = along (step_of t) start (take (stop_at start end t w) (values_in w))
