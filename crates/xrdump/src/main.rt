@@ -1,7 +1,8 @@
 // Prints both readings of the packet on standard input (RULES, "Views, cursors and the dump").
 #![tactic(auto)]
 
-use libc::STDIN_FILENO;
+// The file descriptor of standard input.
+const STDIN_FILENO: i32 = 0;
 
 // One byte more than the longest packet that is dumped, so that a longer one is seen to be longer.
 const INPUT: usize = 65537;

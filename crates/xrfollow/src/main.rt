@@ -5,8 +5,13 @@
 #![tactic(auto)]
 
 use def_refusals::Checked;
-use libc::{STDERR_FILENO, STDIN_FILENO};
 use states::Portions;
+use std::io::{Read, Stdin};
+
+// The file descriptors of standard output and standard error.
+const STDOUT_FILENO: i32 = 1;
+
+const STDERR_FILENO: i32 = 2;
 
 // How many bytes are read at once, and how often at most: a proved loop has to end, and no run comes to so many turns.
 const PIECE: usize = 4096;
@@ -98,13 +103,13 @@ fn piece(
 }
 
 // The end of the input, or an input that cannot be read.
-fn ended(inside: bool, got: isize) {
-    if got < 0 {
+fn ended(inside: bool, failed: bool) {
+    if failed {
         io::write_all(STDERR_FILENO, b"xrfollow: standard input cannot be read\n");
         return;
     }
     if inside {
-        io::write_all(libc::STDOUT_FILENO, b"cut\n");
+        io::write_all(STDOUT_FILENO, b"cut\n");
         io::write_all(STDERR_FILENO, b"xrfollow: the input ends inside a packet\n");
     }
 }
@@ -120,7 +125,7 @@ fn lost() {
 // The lines of the bytes that a read gave; none at the input's end.
 fn told(
     c: Course,
-    got: isize,
+    failed: bool,
     x: &[u8],
     tags: &mut [u64],
     numbers: &mut [u16],
@@ -129,7 +134,7 @@ fn told(
     buf: &mut [u8],
 ) -> Course {
     if x.len() == 0 {
-        ended(c.inside, got);
+        ended(c.inside, failed);
         let s = c.state;
         return Course {
             state: s,
@@ -154,6 +159,7 @@ fn told(
 
 // One read, and the lines of its bytes.
 fn turn(
+    from: &mut Stdin,
     c: Course,
     input: &mut [u8],
     tags: &mut [u64],
@@ -162,11 +168,12 @@ fn turn(
     sums: &mut [u64],
     buf: &mut [u8],
 ) -> Course {
-    let got = libc::read(STDIN_FILENO, input);
-    let n = io::count(got, input);
+    let read = from.read(input);
+    let failed = read.is_err();
+    let n = read.unwrap_or(0);
     told(
         c,
-        got,
+        failed,
         utils::part(input, 0, n),
         tags,
         numbers,
@@ -178,6 +185,7 @@ fn turn(
 
 // As many reads as the input has.
 fn run(
+    stdin: Stdin,
     input: &mut [u8],
     tags: &mut [u64],
     numbers: &mut [u16],
@@ -185,6 +193,7 @@ fn run(
     sums: &mut [u64],
     buf: &mut [u8],
 ) {
+    let mut from = stdin;
     let mut left = TURNS;
     let mut c = Course {
         state: steps::start(),
@@ -193,7 +202,7 @@ fn run(
         at: 0,
     };
     while 0 < left {
-        c = turn(c, input, tags, numbers, values, sums, buf);
+        c = turn(&mut from, c, input, tags, numbers, values, sums, buf);
         if !c.goes_on {
             return;
         }
@@ -201,7 +210,7 @@ fn run(
     }
 }
 
-fn main() {
+fn main(rt: HostRuntime) {
     let mut input = [0u8; PIECE];
     let mut tags = [0u64; 16384];
     let mut numbers = [0u16; 16384];
@@ -209,6 +218,7 @@ fn main() {
     let mut sums = [0u64; 49152];
     let mut buf = [0u8; 65536];
     run(
+        rt.stdin(),
         &mut input,
         &mut tags,
         &mut numbers,

@@ -1,6 +1,8 @@
 // The program's arguments: begin, the media SSRC and the sender's, in decimal.
 ghost use Rattle.std.specs.Prelude.{◌≤◌};
 
+use std::env::{Env, FillError};
+
 // What the marks are reported with.
 #[derive(Drop)]
 pub struct Report {
@@ -69,27 +71,33 @@ fn digits(word: &[u8], most: u64) -> Number
     }
 }
 
+// Whether there is an argument at a place; its bytes are not looked at.
+fn is_given(rt: &impl Env, at: usize) -> bool {
+    let mut none = [0u8; 0];
+    !matches!(rt.arg(at, &mut none), Err(FillError::NotPresent))
+}
+
 // The argument at a place, or 0 where none is given. One of more than ten bytes counts as empty.
-fn argument(at: usize, most: u64) -> Number
+fn argument(rt: &impl Env, at: usize, most: u64) -> Number
     requires { most ≤ 4294967295 }
     ensures { result.value ≤ most }
 {
-    if os::arg_count() <= at {
+    if !is_given(rt, at) {
         return Number {
             good: true,
             value: 0,
         };
     }
     let mut word = [0u8; 10];
-    let n = os::arg(at, &mut word);
-    digits(&word[..n], most)
+    let n = rt.arg(at, &mut word).unwrap_or(0);
+    digits(utils::part(&word, 0, n), most)
 }
 
-pub fn arguments() -> Asked {
-    let begin = argument(1, 65535);
-    let media = argument(2, 4294967295);
-    let sender = argument(3, 4294967295);
-    if 4 < os::arg_count() {
+pub fn arguments(rt: &impl Env) -> Asked {
+    let begin = argument(rt, 1, 65535);
+    let media = argument(rt, 2, 4294967295);
+    let sender = argument(rt, 3, 4294967295);
+    if is_given(rt, 4) {
         return Asked::Nothing;
     }
     if !begin.good {

@@ -2,7 +2,7 @@
 // neither 0 nor 1.
 ghost use Rattle.std.specs.Prelude.{◌+◌, ◌≤◌, ◌<◌, length};
 
-use libc::STDIN_FILENO;
+use std::io::{Read, Stdin};
 
 // How many bytes are read at once, and how often at most. A proved loop has to end: no run comes to so many turns, and
 // the count of marks stays under 2^63.
@@ -12,7 +12,7 @@ const TURNS: usize = 140737488355327;
 
 // How many marks there are, and whether the input was read to its end.
 #[derive(Drop)]
-pub struct Read {
+pub struct Marks {
     pub count: usize,
     pub whole: bool,
 }
@@ -68,43 +68,47 @@ fn take_all(marks: &mut [u8], count: usize, piece: &[u8]) -> usize
     n
 }
 
-// What one read came to: C's answer, and how many marks there are then.
+// What one read came to: how many bytes it gave, whether it failed, and how many marks there are then.
 #[derive(Drop)]
 struct Turn {
-    got: isize,
+    got: usize,
+    failed: bool,
     count: usize,
 }
 
 // The next piece of the input.
-fn read_piece(marks: &mut [u8], count: usize) -> Turn
+fn read_piece(from: &mut Stdin, marks: &mut [u8], count: usize) -> Turn
     requires { count + 65536 < 9223372036854775808 }
     ensures { result.count ≤ count + 65536 }
 {
     let mut piece = [0u8; PIECE];
-    let got = libc::read(STDIN_FILENO, &mut piece);
-    let n = io::count(got, &piece);
+    let read = from.read(&mut piece);
+    let failed = read.is_err();
+    let got = read.unwrap_or(0);
     Turn {
         got,
-        count: take_all(marks, count, &piece[..n]),
+        failed,
+        count: take_all(marks, count, utils::part(&piece, 0, got)),
     }
 }
 
 // All marks are counted, and those that there is room for are kept.
-pub fn read_marks(marks: &mut [u8]) -> Read {
+pub fn read_marks(stdin: Stdin, marks: &mut [u8]) -> Marks {
+    let mut from = stdin;
     let mut left = TURNS;
     let mut count: usize = 0;
     while 0 < left {
-        let t = read_piece(marks, count);
+        let t = read_piece(&mut from, marks, count);
         count = t.count;
-        if t.got <= 0 {
-            return Read {
+        if t.got == 0 {
+            return Marks {
                 count,
-                whole: t.got == 0,
+                whole: !t.failed,
             };
         }
         left -= 1;
     }
-    Read {
+    Marks {
         count,
         whole: false,
     }

@@ -10,7 +10,10 @@ mod input;
 
 use arguments::{Asked, Report};
 use def_refusals::{Answer, Refusal};
-use libc::STDERR_FILENO;
+use std::io::Stdin;
+
+// The file descriptor of standard error.
+const STDERR_FILENO: i32 = 2;
 
 // The most marks, the words that they can need, the job list of these words, and its packet.
 const MARKS: usize = 65536;
@@ -72,9 +75,9 @@ fn report(r: Report, marks: &[u8]) {
 }
 
 // Of more marks than are taken, those behind the last place were only counted: 14, whatever they are.
-fn run(r: Report) {
+fn run(stdin: Stdin, r: Report) {
     let mut marks = [0u8; MARKS];
-    let read = input::read_marks(&mut marks);
+    let read = input::read_marks(stdin, &mut marks);
     if !read.whole {
         io::write_all(STDERR_FILENO, b"xrmarks: standard input cannot be read\n");
         return;
@@ -86,9 +89,9 @@ fn run(r: Report) {
     }
 }
 
-fn main() {
-    match arguments::arguments() {
-        Asked::For(r) => run(r),
+fn main(rt: HostRuntime) {
+    match arguments::arguments(&rt) {
+        Asked::For(r) => run(rt.stdin(), r),
         Asked::Nothing => {
             io::write_all(
                 STDERR_FILENO,

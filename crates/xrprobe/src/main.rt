@@ -4,7 +4,8 @@
 // proved to add to the buffer.
 #![tactic(auto)]
 
-use libc::STDIN_FILENO;
+// The file descriptor of standard input.
+const STDIN_FILENO: i32 = 0;
 
 // The longest payload.
 const LONGEST: usize = 300000;

@@ -5,7 +5,13 @@
 
 use def_jobs::Layout;
 use def_refusals::{Answer, Refusal};
-use libc::{STDERR_FILENO, STDIN_FILENO};
+use std::env::{Env, FillError};
+
+// The file descriptor of standard input.
+const STDIN_FILENO: i32 = 0;
+
+// The file descriptor of standard error.
+const STDERR_FILENO: i32 = 2;
 
 // The longest list, and one byte more, so that a longer one is seen to be longer.
 const LONGEST: usize = 300000;
@@ -38,12 +44,18 @@ fn named(word: &[u8]) -> Asked {
     Asked::Nothing
 }
 
-// An argument that is longer than eight bytes counts as empty.
-fn argument() -> Asked {
+// Whether there is an argument at a place; its bytes are not looked at.
+fn is_given(rt: &impl Env, at: usize) -> bool {
+    let mut none = [0u8; 0];
+    !matches!(rt.arg(at, &mut none), Err(FillError::NotPresent))
+}
+
+// The one argument. One that is longer than eight bytes counts as empty.
+fn argument(rt: &impl Env) -> Asked {
     let mut word = [0u8; 8];
-    let n = os::arg(1, &mut word);
-    if os::arg_count() == 2 {
-        return named(&word[..n]);
+    let n = rt.arg(1, &mut word).unwrap_or(0);
+    if is_given(rt, 1) && !is_given(rt, 2) {
+        return named(utils::part(&word, 0, n));
     }
     Asked::Nothing
 }
@@ -81,8 +93,8 @@ fn run(layout: Layout) {
     }
 }
 
-fn main() {
-    match argument() {
+fn main(rt: HostRuntime) {
+    match argument(&rt) {
         Asked::In(layout) => run(layout),
         Asked::Nothing => {
             io::write_all(

@@ -1,0 +1,8 @@
+-- `lines::pairs_line` meets its contract: `pairs n t n t ..`.
+use Rattle.print.proofs.AddedLaws.{and_then}
+use Rattle.def_dump.specs.Lines.{list_line}
+use Rattle.lines.proofs.pairs_line.Goals as goal
+
+pub returns : goal.returns
+unfolding list_line
+returns c = and_then (and_then c.text-n.ensures c.list_pairs-m.ensures) c.line_end.ensures
