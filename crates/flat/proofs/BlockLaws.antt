@@ -1,11 +1,8 @@
 -- What stands at a place of a packet, and a packet's count with its sender, laid out as numbers. Assumes nothing.
 use Prim.Native.Nat.{ℕ}
-use mathlib.Core.Path.{◌≡◌, ap, ◌∙◌}
+use mathlib.Core.Path.{◌≡◌}
 use mathlib.Core.List.{List}
 use lib.ListN.{length}
-use Rattle.def_refusals.specs.declared.Refusal.{Refusal}
-use Rattle.def_refusals.specs.declared.Answer.{Answer}
-use Rattle.def_refusals.specs.declared.Answer.TheVariants.{Done, Refused}
 use Rattle.def_wire.specs.declared.Reading.{Reading}
 use Rattle.def_wire.specs.Packet.{next_place, view_from}
 use Rattle.def_wire.specs.Block.{type_of, specific_of, block_length}

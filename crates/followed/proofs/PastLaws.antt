@@ -19,7 +19,7 @@ use Rattle.def_wire.specs.Packet.{announced_of}
 use Rattle.def_portions.specs.Events.{Course, need, head_fault}
 use Rattle.def_portions.specs.Calls.{where_good, past_fault}
 use Rattle.states.specs.declared.Portions.{Portions}
-use Rattle.states.specs.Steps.{state, head, known, start, held_over, low32, good_length, where_fine}
+use Rattle.states.specs.Steps.{held_with, state, head, known, start, held_over, low32, good_length, where_fine}
 use Rattle.states.specs.Steps.{fault_of, after}
 use Rattle.states.specs.Call.{announced_by, taken_in, past_by, past_of}
 use Rattle.followed.specs.Run.{run_of}
@@ -52,7 +52,7 @@ past-few s h = rw (lt-ltb _ _ h)
 held-append : (item h : ℕ) (x y : List ℕ) → held_over item (held_over item h x) y ≡ held_over item h (x ++ y)
 unfolding held_over
 held-append item h [] y = refl
-held-append item h (b ∷ x) y = held-append item _ x y
+held-append item h (b ∷ x) y = held-append item (held_with item h b) x y
 
 past-of : (st : Portions) (x : List ℕ) → (announced_by st x ≡ 0 → eqb st.item head ≡ true)
     → past_of st x ≡ past_where (announced_by st x) (taken_in st + length x)
