@@ -1,0 +1,14 @@
+-- `ask::tell_packet` meets its contract: a packet's line, or the refusal's, and `spoilt` unless the memory is whole.
+use Rattle.print.proofs.AddedLaws.{and_then, reads}
+use Rattle.lent.specs.Pattern.{mark8}
+use Rattle.def_dump.specs.Lines.{packet_line}
+use Rattle.lent.proofs.TellLaws.{list_done, list-refused}
+use Rattle.ask.proofs.tell_packet.Goals as goal
+
+pub returns-in-Done : goal.returns-in-Done
+returns-in-Done c = reads (list_done mark8 packet_line _ _ _ _ c.in-Done.is c.stands8.ensures)
+    (and_then c.packet_line-m.ensures c.said_whole.ensures)
+
+pub returns-in-Refused : goal.returns-in-Refused
+returns-in-Refused c = reads (list-refused mark8 packet_line _ _ _ _ c.in-Refused.is c.stands8-in-Refused.ensures)
+    (and_then c.refusal_line-m.ensures c.said_whole-in-Refused.ensures)
