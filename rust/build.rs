@@ -26,7 +26,7 @@ fn main() {
     let archive = dir.join("libxport.a");
     if !archive.is_file() {
         fail(&format!(
-            "{} is not there. Make it with `rt staticlib xport` at the repository's root, or set GIUNCHEMIS_LIB_DIR \
+            "{} is not there. Make it with `tools/archive` at the repository's root, or set GIUNCHEMIS_LIB_DIR \
              to the folder that holds libxport.a.",
             archive.display()
         ));

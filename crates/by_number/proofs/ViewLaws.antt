@@ -3,7 +3,6 @@
 use Prim.Native.Nat.{ℕ}
 use mathlib.Core.Path.{◌≡◌}
 use mathlib.Core.List.{List}
-use lib.ListN.{length}
 use Rattle.def_refusals.specs.Answers.{Or, refused}
 use Rattle.def_wire.specs.declared.Reading.{Reading}
 use Rattle.def_wire.specs.declared.Rle.{Rle}
@@ -16,7 +15,6 @@ use Rattle.def_wire.specs.Block.{rle_of, ranged_of, fields_of}
 use Rattle.def_questions.specs.Questions.{words_shown}
 use Rattle.def_questions.specs.ByNumber.{on_rle, on_ranged, not_served}
 use Rattle.def_cursor.specs.declared.Cursor.{Cursor}
-use Rattle.def_cursor.specs.declared.Advanced.{Advanced}
 use Rattle.def_cursor.specs.declared.Advanced.TheVariants.{Stuck}
 use Rattle.def_cursor.specs.Cursor.{advance_of, stretch_filled, advance_by, filled_by}
 

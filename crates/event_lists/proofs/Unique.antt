@@ -1,12 +1,12 @@
 -- No second answer satisfies a public function's contract. Each statement is about the contract in src/ itself, as
 -- rattle reads it. Written by tools/unique. Assumes nothing.
-use mathlib.Core.Path.{sym, ◌∙◌}
+use Rattle.std.proofs.Common.{sym, ◌∙◌}
 use contract.Lifetimes.{Lfts}
 use Rattle.laws.proofs.Determined.{Fixes}
 use Rattle.event_lists.proofs.put.Reads as put
-use Rattle.event_lists.proofs.put_tags.Reads as put-tags
+use Rattle.event_lists.proofs.put_tags.Reads as put_tags
 use Rattle.event_lists.proofs.put_word.Reads as put_word
-use Rattle.event_lists.proofs.event_of.Reads as event-of
+use Rattle.event_lists.proofs.event_of.Reads as event_of
 
 pub put-unique : (κs : Lfts 4) → Fixes (put.Post κs) (λ r s. r)
 put-unique κs a r₁ r₂ s₁ s₂ p q = p.past ∙ sym q.past
@@ -23,17 +23,17 @@ put-unique-values κs a r₁ r₂ s₁ s₂ p q = p.values ∙ sym q.values
 pub put-unique-sums : (κs : Lfts 4) → Fixes (put.Post κs) (λ r s. s.1.1.1.0.now)
 put-unique-sums κs a r₁ r₂ s₁ s₂ p q = p.sums ∙ sym q.sums
 
-pub put-tags-unique-tags : (κs : Lfts 1) → Fixes (put-tags.Post κs) (λ r s. s.0.now)
-put-tags-unique-tags κs a r₁ r₂ s₁ s₂ p q = p ∙ sym q
+pub put_tags-unique-tags : (κs : Lfts 1) → Fixes (put_tags.Post κs) (λ r s. s.0.now)
+put_tags-unique-tags κs a r₁ r₂ s₁ s₂ p q = p ∙ sym q
 
-pub put-word-unique-tags : (κs : Lfts 2) → Fixes (put_word.Post κs) (λ r s. s.0.now)
-put-word-unique-tags κs a r₁ r₂ s₁ s₂ p q = p.0 ∙ sym q.0
+pub put_word-unique-tags : (κs : Lfts 2) → Fixes (put_word.Post κs) (λ r s. s.0.now)
+put_word-unique-tags κs a r₁ r₂ s₁ s₂ p q = p.0 ∙ sym q.0
 
-pub put-word-unique-numbers : (κs : Lfts 2) → Fixes (put_word.Post κs) (λ r s. s.1.0.now)
-put-word-unique-numbers κs a r₁ r₂ s₁ s₂ p q = p.1.0 ∙ sym q.1.0
+pub put_word-unique-numbers : (κs : Lfts 2) → Fixes (put_word.Post κs) (λ r s. s.1.0.now)
+put_word-unique-numbers κs a r₁ r₂ s₁ s₂ p q = p.1 ∙ sym q.1
 
-pub put-word-unique : (κs : Lfts 2) → Fixes (put_word.Post κs) (λ r s. r)
-put-word-unique κs a r₁ r₂ s₁ s₂ p q = p.1.1 ∙ sym q.1.1
+pub put_word-unique : (κs : Lfts 2) → Fixes (put_word.Post κs) (λ r s. r)
+put_word-unique κs a r₁ r₂ s₁ s₂ p q = p.2 ∙ sym q.2
 
-pub event-of-unique : (κs : Lfts 0) → Fixes (event-of.Post κs) (λ r s. r)
-event-of-unique κs a r₁ r₂ s₁ s₂ p q = p ∙ sym q
+pub event_of-unique : (κs : Lfts 0) → Fixes (event_of.Post κs) (λ r s. r)
+event_of-unique κs a r₁ r₂ s₁ s₂ p q = p ∙ sym q

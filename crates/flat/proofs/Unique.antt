@@ -1,6 +1,6 @@
 -- No second answer satisfies a public function's contract. Each statement is about the contract in src/ itself, as
 -- rattle reads it. Written by tools/unique. Assumes nothing.
-use mathlib.Core.Path.{sym, ◌∙◌}
+use Rattle.std.proofs.Common.{sym, ◌∙◌}
 use contract.Lifetimes.{Lfts}
 use Rattle.laws.proofs.Determined.{Fixes}
 use Rattle.flat.proofs.reading.Reads as reading
@@ -11,7 +11,7 @@ use Rattle.flat.proofs.located.Reads as located
 use Rattle.flat.proofs.fields.Reads as fields
 use Rattle.flat.proofs.time.Reads as time
 use Rattle.flat.proofs.stretch.Reads as stretch
-use Rattle.flat.proofs.kind_number.Reads as kind-number
+use Rattle.flat.proofs.kind_number.Reads as kind_number
 use Rattle.flat.proofs.followed.Reads as followed
 use Rattle.flat.proofs.summary.Reads as summary
 
@@ -39,8 +39,8 @@ time-unique κs a r₁ r₂ s₁ s₂ p q = p ∙ sym q
 pub stretch-unique : (κs : Lfts 0) → Fixes (stretch.Post κs) (λ r s. r)
 stretch-unique κs a r₁ r₂ s₁ s₂ p q = p ∙ sym q
 
-pub kind-number-unique : (κs : Lfts 0) → Fixes (kind-number.Post κs) (λ r s. r)
-kind-number-unique κs a r₁ r₂ s₁ s₂ p q = p ∙ sym q
+pub kind_number-unique : (κs : Lfts 0) → Fixes (kind_number.Post κs) (λ r s. r)
+kind_number-unique κs a r₁ r₂ s₁ s₂ p q = p ∙ sym q
 
 pub followed-unique : (κs : Lfts 0) → Fixes (followed.Post κs) (λ r s. r)
 followed-unique κs a r₁ r₂ s₁ s₂ p q = p ∙ sym q

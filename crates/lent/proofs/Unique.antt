@@ -1,6 +1,6 @@
 -- No second answer satisfies a public function's contract. Each statement is about the contract in src/ itself, as
 -- rattle reads it. Written by tools/unique. Assumes nothing.
-use mathlib.Core.Path.{sym, ◌∙◌}
+use Rattle.std.proofs.Common.{sym, ◌∙◌}
 use contract.Lifetimes.{Lfts}
 use Rattle.laws.proofs.Determined.{Fixes}
 use Rattle.lent.proofs.fill8.Reads as fill8
@@ -9,7 +9,7 @@ use Rattle.lent.proofs.fill32.Reads as fill32
 use Rattle.lent.proofs.stands8.Reads as stands8
 use Rattle.lent.proofs.stands16.Reads as stands16
 use Rattle.lent.proofs.stands32.Reads as stands32
-use Rattle.lent.proofs.said_whole.Reads as said-whole
+use Rattle.lent.proofs.said_whole.Reads as said_whole
 
 pub fill8-unique-list : (κs : Lfts 1) → Fixes (fill8.Post κs) (λ r s. s.0.now)
 fill8-unique-list κs a r₁ r₂ s₁ s₂ p q = p ∙ sym q
@@ -29,8 +29,8 @@ stands16-unique κs a r₁ r₂ s₁ s₂ p q = p ∙ sym q
 pub stands32-unique : (κs : Lfts 1) → Fixes (stands32.Post κs) (λ r s. r)
 stands32-unique κs a r₁ r₂ s₁ s₂ p q = p ∙ sym q
 
-pub said-whole-unique : (κs : Lfts 1) → Fixes (said-whole.Post κs) (λ r s. r)
-said-whole-unique κs a r₁ r₂ s₁ s₂ p q = p.place ∙ sym q.place
+pub said_whole-unique : (κs : Lfts 1) → Fixes (said_whole.Post κs) (λ r s. r)
+said_whole-unique κs a r₁ r₂ s₁ s₂ p q = p.place ∙ sym q.place
 
-pub said-whole-unique-buf : (κs : Lfts 1) → Fixes (said-whole.Post κs) (λ r s. s.0.now)
-said-whole-unique-buf κs a r₁ r₂ s₁ s₂ p q = p.held ∙ sym q.held
+pub said_whole-unique-buf : (κs : Lfts 1) → Fixes (said_whole.Post κs) (λ r s. s.0.now)
+said_whole-unique-buf κs a r₁ r₂ s₁ s₂ p q = p.held ∙ sym q.held

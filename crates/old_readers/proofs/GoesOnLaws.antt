@@ -2,7 +2,7 @@
 -- exactly where `goes_on` says so. The one place that unfolds `goes_on`. Assumes nothing.
 --     is_some, Leads      a list comes first in another, and a test tells whether there is more behind it
 --     words-lead         what words list in such a range leads the crate's list
-use Prim.Native.Nat.{ℕ, zero, suc, ◌+◌, ◌*◌, ◌%◌, ◌^◌, ◌≤◌, ◌<◌}
+use Prim.Native.Nat.{ℕ, suc, ◌+◌, ◌*◌, ◌%◌, ◌^◌, ◌≤◌, ◌<◌}
 use mathlib.Core.Path.{◌≡◌, refl, sym, ap, ◌∙◌}
 use mathlib.Core.Bool.{Bool, true, false, cond}
 use mathlib.Core.List.{List, [], ◌∷◌, ◌++◌, map}

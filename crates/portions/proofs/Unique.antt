@@ -1,6 +1,6 @@
 -- No second answer satisfies a public function's contract. Each statement is about the contract in src/ itself, as
 -- rattle reads it. Written by tools/unique. Assumes nothing.
-use mathlib.Core.Path.{sym, ◌∙◌}
+use Rattle.std.proofs.Common.{sym, ◌∙◌}
 use contract.Lifetimes.{Lfts}
 use Rattle.laws.proofs.Determined.{Fixes}
 use Rattle.portions.proofs.follow.Reads as follow

@@ -1,6 +1,6 @@
 -- No second answer satisfies a public function's contract. Each statement is about the contract in src/ itself, as
 -- rattle reads it. Written by tools/unique. Assumes nothing.
-use mathlib.Core.Path.{sym, ◌∙◌}
+use Rattle.std.proofs.Common.{sym, ◌∙◌}
 use contract.Lifetimes.{Lfts}
 use Rattle.laws.proofs.Determined.{Fixes}
 use Rattle.print.proofs.send.Reads as send
@@ -11,11 +11,11 @@ use Rattle.print.proofs.decimal.Reads as decimal
 use Rattle.print.proofs.number.Reads as number
 use Rattle.print.proofs.labelled.Reads as labelled
 use Rattle.print.proofs.hex.Reads as hex
-use Rattle.print.proofs.line_end.Reads as line-end
+use Rattle.print.proofs.line_end.Reads as line_end
 use Rattle.print.proofs.list16.Reads as list16
-use Rattle.print.proofs.list_pairs.Reads as list-pairs
-use Rattle.print.proofs.list_entries.Reads as list-entries
-use Rattle.print.proofs.hex_list.Reads as hex-list
+use Rattle.print.proofs.list_pairs.Reads as list_pairs
+use Rattle.print.proofs.list_entries.Reads as list_entries
+use Rattle.print.proofs.hex_list.Reads as hex_list
 
 pub send-unique : (κs : Lfts 1) → Fixes (send.Post κs) (λ r s. r)
 send-unique κs a r₁ r₂ s₁ s₂ p q = p ∙ sym q
@@ -59,11 +59,11 @@ hex-unique κs a r₁ r₂ s₁ s₂ p q = p.place ∙ sym q.place
 pub hex-unique-buf : (κs : Lfts 1) → Fixes (hex.Post κs) (λ r s. s.0.now)
 hex-unique-buf κs a r₁ r₂ s₁ s₂ p q = p.held ∙ sym q.held
 
-pub line-end-unique : (κs : Lfts 1) → Fixes (line-end.Post κs) (λ r s. r)
-line-end-unique κs a r₁ r₂ s₁ s₂ p q = p.place ∙ sym q.place
+pub line_end-unique : (κs : Lfts 1) → Fixes (line_end.Post κs) (λ r s. r)
+line_end-unique κs a r₁ r₂ s₁ s₂ p q = p.place ∙ sym q.place
 
-pub line-end-unique-buf : (κs : Lfts 1) → Fixes (line-end.Post κs) (λ r s. s.0.now)
-line-end-unique-buf κs a r₁ r₂ s₁ s₂ p q = p.held ∙ sym q.held
+pub line_end-unique-buf : (κs : Lfts 1) → Fixes (line_end.Post κs) (λ r s. s.0.now)
+line_end-unique-buf κs a r₁ r₂ s₁ s₂ p q = p.held ∙ sym q.held
 
 pub list16-unique : (κs : Lfts 2) → Fixes (list16.Post κs) (λ r s. r)
 list16-unique κs a r₁ r₂ s₁ s₂ p q = p.place ∙ sym q.place
@@ -71,20 +71,20 @@ list16-unique κs a r₁ r₂ s₁ s₂ p q = p.place ∙ sym q.place
 pub list16-unique-buf : (κs : Lfts 2) → Fixes (list16.Post κs) (λ r s. s.0.now)
 list16-unique-buf κs a r₁ r₂ s₁ s₂ p q = p.held ∙ sym q.held
 
-pub list-pairs-unique : (κs : Lfts 3) → Fixes (list-pairs.Post κs) (λ r s. r)
-list-pairs-unique κs a r₁ r₂ s₁ s₂ p q = p.place ∙ sym q.place
+pub list_pairs-unique : (κs : Lfts 3) → Fixes (list_pairs.Post κs) (λ r s. r)
+list_pairs-unique κs a r₁ r₂ s₁ s₂ p q = p.place ∙ sym q.place
 
-pub list-pairs-unique-buf : (κs : Lfts 3) → Fixes (list-pairs.Post κs) (λ r s. s.0.now)
-list-pairs-unique-buf κs a r₁ r₂ s₁ s₂ p q = p.held ∙ sym q.held
+pub list_pairs-unique-buf : (κs : Lfts 3) → Fixes (list_pairs.Post κs) (λ r s. s.0.now)
+list_pairs-unique-buf κs a r₁ r₂ s₁ s₂ p q = p.held ∙ sym q.held
 
-pub list-entries-unique : (κs : Lfts 4) → Fixes (list-entries.Post κs) (λ r s. r)
-list-entries-unique κs a r₁ r₂ s₁ s₂ p q = p.place ∙ sym q.place
+pub list_entries-unique : (κs : Lfts 4) → Fixes (list_entries.Post κs) (λ r s. r)
+list_entries-unique κs a r₁ r₂ s₁ s₂ p q = p.place ∙ sym q.place
 
-pub list-entries-unique-buf : (κs : Lfts 4) → Fixes (list-entries.Post κs) (λ r s. s.0.now)
-list-entries-unique-buf κs a r₁ r₂ s₁ s₂ p q = p.held ∙ sym q.held
+pub list_entries-unique-buf : (κs : Lfts 4) → Fixes (list_entries.Post κs) (λ r s. s.0.now)
+list_entries-unique-buf κs a r₁ r₂ s₁ s₂ p q = p.held ∙ sym q.held
 
-pub hex-list-unique : (κs : Lfts 2) → Fixes (hex-list.Post κs) (λ r s. r)
-hex-list-unique κs a r₁ r₂ s₁ s₂ p q = p.place ∙ sym q.place
+pub hex_list-unique : (κs : Lfts 2) → Fixes (hex_list.Post κs) (λ r s. r)
+hex_list-unique κs a r₁ r₂ s₁ s₂ p q = p.place ∙ sym q.place
 
-pub hex-list-unique-buf : (κs : Lfts 2) → Fixes (hex-list.Post κs) (λ r s. s.0.now)
-hex-list-unique-buf κs a r₁ r₂ s₁ s₂ p q = p.held ∙ sym q.held
+pub hex_list-unique-buf : (κs : Lfts 2) → Fixes (hex_list.Post κs) (λ r s. s.0.now)
+hex_list-unique-buf κs a r₁ r₂ s₁ s₂ p q = p.held ∙ sym q.held

@@ -68,7 +68,7 @@ pub fn moved<'a>(r: Reader<'a>) -> Reader<'a>
 // Its block's view, that part of the packet that it holds. Port of: XrBlock, its data; differs: the reading is asked.
 pub fn view<'a>(r: Reader<'a>, reading: Reading) -> &'a [u8]
     ensures { (result.now ≡ view_from reading r.entry.packet.now r.entry.at)
-        × (result.ref_ptr ≡ start_from r.entry.packet.ptr r.entry.packet.now r.entry.at) }
+        × (result.ref_ptr ≡ start_from r.entry.packet.ref_ptr r.entry.packet.now r.entry.at) }
 {
     view_at(reading, r.packet, r.at)
 }

@@ -1,17 +1,17 @@
 -- No second answer satisfies a public function's contract. Each statement is about the contract in src/ itself, as
 -- rattle reads it. Written by tools/unique. Assumes nothing.
-use mathlib.Core.Path.{sym, ◌∙◌}
+use Rattle.std.proofs.Common.{sym, ◌∙◌}
 use contract.Lifetimes.{Lfts}
 use Rattle.laws.proofs.Determined.{Fixes}
 use Rattle.steps.proofs.start.Reads as start
 use Rattle.steps.proofs.low16.Reads as low16
 use Rattle.steps.proofs.low32.Reads as low32
-use Rattle.steps.proofs.length_of.Reads as length-of
-use Rattle.steps.proofs.thinning_of.Reads as thinning-of
+use Rattle.steps.proofs.length_of.Reads as length_of
+use Rattle.steps.proofs.thinning_of.Reads as thinning_of
 use Rattle.steps.proofs.good_length.Reads as good_length
-use Rattle.steps.proofs.block_fault.Reads as block-fault
+use Rattle.steps.proofs.block_fault.Reads as block_fault
 use Rattle.steps.proofs.fault.Reads as fault
-use Rattle.steps.proofs.next_block.Reads as next-block
+use Rattle.steps.proofs.next_block.Reads as next_block
 use Rattle.steps.proofs.fields_in.Reads as fields_in
 use Rattle.steps.proofs.passed.Reads as passed
 use Rattle.steps.proofs.lone.Reads as lone
@@ -27,26 +27,26 @@ low16-unique κs a r₁ r₂ s₁ s₂ p q = p ∙ sym q
 pub low32-unique : (κs : Lfts 0) → Fixes (low32.Post κs) (λ r s. r)
 low32-unique κs a r₁ r₂ s₁ s₂ p q = p ∙ sym q
 
-pub length-of-unique : (κs : Lfts 0) → Fixes (length-of.Post κs) (λ r s. r)
-length-of-unique κs a r₁ r₂ s₁ s₂ p q = p.0 ∙ sym q.0
+pub length_of-unique : (κs : Lfts 0) → Fixes (length_of.Post κs) (λ r s. r)
+length_of-unique κs a r₁ r₂ s₁ s₂ p q = p.0 ∙ sym q.0
 
-pub thinning-of-unique : (κs : Lfts 0) → Fixes (thinning-of.Post κs) (λ r s. r)
-thinning-of-unique κs a r₁ r₂ s₁ s₂ p q = p ∙ sym q
+pub thinning_of-unique : (κs : Lfts 0) → Fixes (thinning_of.Post κs) (λ r s. r)
+thinning_of-unique κs a r₁ r₂ s₁ s₂ p q = p ∙ sym q
 
-pub good-length-unique : (κs : Lfts 0) → Fixes (good_length.Post κs) (λ r s. r)
-good-length-unique κs a r₁ r₂ s₁ s₂ p q = p ∙ sym q
+pub good_length-unique : (κs : Lfts 0) → Fixes (good_length.Post κs) (λ r s. r)
+good_length-unique κs a r₁ r₂ s₁ s₂ p q = p ∙ sym q
 
-pub block-fault-unique : (κs : Lfts 0) → Fixes (block-fault.Post κs) (λ r s. r)
-block-fault-unique κs a r₁ r₂ s₁ s₂ p q = p ∙ sym q
+pub block_fault-unique : (κs : Lfts 0) → Fixes (block_fault.Post κs) (λ r s. r)
+block_fault-unique κs a r₁ r₂ s₁ s₂ p q = p ∙ sym q
 
 pub fault-unique : (κs : Lfts 0) → Fixes (fault.Post κs) (λ r s. r)
 fault-unique κs a r₁ r₂ s₁ s₂ p q = p ∙ sym q
 
-pub next-block-unique : (κs : Lfts 0) → Fixes (next-block.Post κs) (λ r s. r)
-next-block-unique κs a r₁ r₂ s₁ s₂ p q = p ∙ sym q
+pub next_block-unique : (κs : Lfts 0) → Fixes (next_block.Post κs) (λ r s. r)
+next_block-unique κs a r₁ r₂ s₁ s₂ p q = p ∙ sym q
 
-pub fields-in-unique : (κs : Lfts 0) → Fixes (fields_in.Post κs) (λ r s. r)
-fields-in-unique κs a r₁ r₂ s₁ s₂ p q = p ∙ sym q
+pub fields_in-unique : (κs : Lfts 0) → Fixes (fields_in.Post κs) (λ r s. r)
+fields_in-unique κs a r₁ r₂ s₁ s₂ p q = p ∙ sym q
 
 pub passed-unique : (κs : Lfts 0) → Fixes (passed.Post κs) (λ r s. r)
 passed-unique κs a r₁ r₂ s₁ s₂ p q = p ∙ sym q

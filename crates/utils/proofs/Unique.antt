@@ -8,13 +8,13 @@ use Rattle.utils.proofs.join16.Reads as join16
 use Rattle.utils.proofs.join32.Reads as join32
 use Rattle.utils.proofs.byte_at.Reads as byte_at
 use Rattle.utils.proofs.load32.Reads as load32
-use Rattle.utils.proofs.u16_from_be_bytes.Reads as u16-from-be-bytes
-use Rattle.utils.proofs.u32_from_be_bytes.Reads as u32-from-be-bytes
-use Rattle.utils.proofs.u64_from_be_bytes.Reads as u64-from-be-bytes
+use Rattle.utils.proofs.u16_from_be_bytes.Reads as u16_from_be_bytes
+use Rattle.utils.proofs.u32_from_be_bytes.Reads as u32_from_be_bytes
+use Rattle.utils.proofs.u64_from_be_bytes.Reads as u64_from_be_bytes
 use Rattle.utils.proofs.put16.Reads as put16
 use Rattle.utils.proofs.put32.Reads as put32
 use Rattle.utils.proofs.put64.Reads as put64
-use Rattle.utils.proofs.pad_to_4bytes.Reads as pad-to-4bytes
+use Rattle.utils.proofs.pad_to_4bytes.Reads as pad_to_4bytes
 use Rattle.utils.proofs.lesser.Reads as lesser
 use Rattle.utils.proofs.above.Reads as above
 use Rattle.utils.proofs.part.Reads as part
@@ -28,20 +28,20 @@ join16-unique κs a r₁ r₂ s₁ s₂ p q = p ∙ sym q
 pub join32-unique : (κs : Lfts 0) → Fixes (join32.Post κs) (λ r s. r)
 join32-unique κs a r₁ r₂ s₁ s₂ p q = p ∙ sym q
 
-pub byte-at-unique : (κs : Lfts 1) → Fixes (byte_at.Post κs) (λ r s. r)
-byte-at-unique κs a r₁ r₂ s₁ s₂ p q = p ∙ sym q
+pub byte_at-unique : (κs : Lfts 1) → Fixes (byte_at.Post κs) (λ r s. r)
+byte_at-unique κs a r₁ r₂ s₁ s₂ p q = p ∙ sym q
 
 pub load32-unique : (κs : Lfts 1) → Fixes (load32.Post κs) (λ r s. r)
 load32-unique κs a r₁ r₂ s₁ s₂ p q = p ∙ sym q
 
-pub u16-from-be-bytes-unique : (κs : Lfts 1) → Fixes (u16-from-be-bytes.Post κs) (λ r s. r)
-u16-from-be-bytes-unique κs a r₁ r₂ s₁ s₂ p q = p ∙ sym q
+pub u16_from_be_bytes-unique : (κs : Lfts 1) → Fixes (u16_from_be_bytes.Post κs) (λ r s. r)
+u16_from_be_bytes-unique κs a r₁ r₂ s₁ s₂ p q = p ∙ sym q
 
-pub u32-from-be-bytes-unique : (κs : Lfts 1) → Fixes (u32-from-be-bytes.Post κs) (λ r s. r)
-u32-from-be-bytes-unique κs a r₁ r₂ s₁ s₂ p q = p ∙ sym q
+pub u32_from_be_bytes-unique : (κs : Lfts 1) → Fixes (u32_from_be_bytes.Post κs) (λ r s. r)
+u32_from_be_bytes-unique κs a r₁ r₂ s₁ s₂ p q = p ∙ sym q
 
-pub u64-from-be-bytes-unique : (κs : Lfts 1) → Fixes (u64-from-be-bytes.Post κs) (λ r s. r)
-u64-from-be-bytes-unique κs a r₁ r₂ s₁ s₂ p q = p ∙ sym q
+pub u64_from_be_bytes-unique : (κs : Lfts 1) → Fixes (u64_from_be_bytes.Post κs) (λ r s. r)
+u64_from_be_bytes-unique κs a r₁ r₂ s₁ s₂ p q = p ∙ sym q
 
 pub put16-unique-out : (κs : Lfts 1) → Fixes (put16.Post κs) (λ r s. s.0.now)
 put16-unique-out κs a r₁ r₂ s₁ s₂ p q = p ∙ sym q
@@ -52,8 +52,8 @@ put32-unique-out κs a r₁ r₂ s₁ s₂ p q = p ∙ sym q
 pub put64-unique-out : (κs : Lfts 1) → Fixes (put64.Post κs) (λ r s. s.0.now)
 put64-unique-out κs a r₁ r₂ s₁ s₂ p q = p ∙ sym q
 
-pub pad-to-4bytes-unique : (κs : Lfts 0) → Fixes (pad-to-4bytes.Post κs) (λ r s. r)
-pad-to-4bytes-unique κs a r₁ r₂ s₁ s₂ p q = p ∙ sym q
+pub pad_to_4bytes-unique : (κs : Lfts 0) → Fixes (pad_to_4bytes.Post κs) (λ r s. r)
+pad_to_4bytes-unique κs a r₁ r₂ s₁ s₂ p q = p ∙ sym q
 
 pub lesser-unique : (κs : Lfts 0) → Fixes (lesser.Post κs) (λ r s. r)
 lesser-unique κs a r₁ r₂ s₁ s₂ p q = p ∙ sym q

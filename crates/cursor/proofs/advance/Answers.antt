@@ -1,0 +1,22 @@
+-- `cursor::advance` meets its contract: takes at most budget steps in a block, asked as type t.
+use Rattle.cursor.proofs.AdvanceLaws.{range-fits, words-behind, stretched-fit, stretched-unfit}
+use Rattle.def_standard.specs.Range.{range_of}
+use Rattle.def_wire.specs.Block.{fields_at}
+use mathlib.Core.Path.{◌≡◌, sym, ap, ◌∙◌}
+use Rattle.cursor.proofs.advance.Goals as goal
+
+pub advance_words-requires : goal.advance_words-requires
+advance_words-requires c = rw c.range_of-g.ensures (range-fits c.fields_at.result)
+
+pub returns-in-Fine : goal.returns-in-Fine
+returns-in-Fine c = let a = c.args in
+    let g : c.range_of-g.result ≡ range_of (fields_at a.v.now) = c.range_of-g.ensures
+    ∙ ap range_of c.fields_at.ensures in
+    stretched-fit a.a a.v.now a.c a.budget a.out.now c.advance_words.result _
+    (sym c.check_chunks.ensures ∙ c.in-Fine.is)
+    (rw (← g, ← words-behind a.v.now, ← c.part.ensures.result_value) c.advance_words.ensures)
+
+pub returns-in-Unfit : goal.returns-in-Unfit
+returns-in-Unfit c = let a = c.args in
+    stretched-unfit a.a a.v.now a.c a.budget a.out.now c.in-Unfit.x
+    (sym c.check_chunks.ensures ∙ c.in-Unfit.is)
