@@ -11,7 +11,7 @@ returns-in-Fine-lost_fault c n =
     let s = c.args.s in
     let bytes : Bytes c.args.x.now = λ i. (c.type_inv.x i).fits in
     let fresh : s ≡ state block 4 0 0 s.behind s.known =
-    before-block s c.if-s-ne-BLOCK.false c.if-s-ne4.false c.if-s-ne0.false c.if-s-ne0-2.false in
+    before-block s c.if-s-ne-BLOCK.false (omega arith) c.if-s-ne0.false c.if-s-ne0-2.false in
     whole-at s c.args.x.now c.args.at c.length_of-l.result c.load32-w.result bytes c.load32-w.ensures
     c.length_of-l.ensures.value fresh c.length_of-l.ensures.lower_bound.0
     (omega (arith, c.requires, c.if-left-l.false)) (sym c.block_fault.ensures ∙ c.in-Fine.is)
