@@ -30,10 +30,10 @@ pub put_word-unique-tags : (κs : Lfts 2) → Fixes (put_word.Post κs) (λ r s.
 put_word-unique-tags κs a r₁ r₂ s₁ s₂ p q = p.0 ∙ sym q.0
 
 pub put_word-unique-numbers : (κs : Lfts 2) → Fixes (put_word.Post κs) (λ r s. s.1.0.now)
-put_word-unique-numbers κs a r₁ r₂ s₁ s₂ p q = p.1 ∙ sym q.1
+put_word-unique-numbers κs a r₁ r₂ s₁ s₂ p q = p.1.0 ∙ sym q.1.0
 
 pub put_word-unique : (κs : Lfts 2) → Fixes (put_word.Post κs) (λ r s. r)
-put_word-unique κs a r₁ r₂ s₁ s₂ p q = p.2 ∙ sym q.2
+put_word-unique κs a r₁ r₂ s₁ s₂ p q = p.1.1 ∙ sym q.1.1
 
 pub event_of-unique : (κs : Lfts 0) → Fixes (event_of.Post κs) (λ r s. r)
 event_of-unique κs a r₁ r₂ s₁ s₂ p q = p ∙ sym q
