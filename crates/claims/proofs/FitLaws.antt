@@ -40,7 +40,7 @@ use Rattle.def_standard.specs.declared.Echo.{Echo}
 use Rattle.def_standard.specs.Standard.{entries_of}
 use Rattle.def_questions.specs.Questions.{numbers_in, pairs_in, numbers_shown, pairs_shown, entries_shown}
 use Rattle.def_jobs.specs.Shown.{reported, received, clocked, echoed, summed, record_as, record_of}
-use Rattle.written.proofs.RecordsLaws.{on_fine}
+use Rattle.written.proofs.RecordsLaws.{on_fine_lem}
 
 -- ---- a block of the asked kind
 
@@ -120,16 +120,16 @@ module _ (r : Reading) (v : List ℕ) where
   pub numbers-fine : (a : Rle) (l : List ℕ) → numbers_shown r a v ≡ shown l
       → (check_of r (Spans (Chunks a)) v ≡ Fine) × (numbers_in r v ≡ l)
   unfolding numbers_shown
-  numbers-fine a l = on_fine (check_of r (Spans (Chunks a)) v) (numbers_in r v) l
+  numbers-fine a l = on_fine_lem (check_of r (Spans (Chunks a)) v) (numbers_in r v) l
 
   pub pairs-fine : (l : List Receipt) → pairs_shown r v ≡ shown l
       → (check_of r (Spans Times) v ≡ Fine) × (pairs_in r v ≡ l)
   unfolding pairs_shown
-  pairs-fine l = on_fine (check_of r (Spans Times) v) (pairs_in r v) l
+  pairs-fine l = on_fine_lem (check_of r (Spans Times) v) (pairs_in r v) l
 
   pub entries-fine : (l : List Echo) → entries_shown r v ≡ shown l → (check_of r Echoes v ≡ Fine) × (entries_of v ≡ l)
   unfolding entries_shown
-  entries-fine l = on_fine (check_of r Echoes v) (entries_of v) l
+  entries-fine l = on_fine_lem (check_of r Echoes v) (entries_of v) l
 
   pub time-fine : (t : LongTime) → time_of r v ≡ Time t → (check_of r Clock v ≡ Fine) × (time_at v ≡ t)
   unfolding time_of

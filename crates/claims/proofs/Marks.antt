@@ -1,6 +1,6 @@
 -- Words from heard marks, and the report made of them, read back. Assumes nothing.
 --     marks-covered, report-read, report-calls     the claims
-use Prim.Native.Nat.{ℕ, ◌+◌, ◌≤◌}
+use Prim.Native.Nat.{ℕ, ◌≤◌}
 use mathlib.Core.Path.{◌≡◌, refl, sym, subst, ◌∙◌}
 use mathlib.Core.List.{List, [], ◌∷◌, ◌++◌}
 use native.Mathlib.Omega.{arith}

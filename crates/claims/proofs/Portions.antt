@@ -11,7 +11,7 @@ use native.Mathlib.Omega.{arith}
 use lib.ListN.{length, take}
 use lib.Dec.{leb, eqb}
 use borrow.Author.Tests.{eqb-true, le-leb}
-use Rattle.laws.proofs.Tests.{either, by-test}
+use Rattle.laws.proofs.Tests.{by-test}
 use Rattle.def_refusals.specs.declared.Refusal.{Refusal}
 use Rattle.def_refusals.specs.declared.Refusal.TheVariants.{TooShort, WrongVersion, WrongPacketType, NoRoom, PastEnd}
 use Rattle.def_refusals.specs.declared.Refusal.TheVariants.{Padded, BlockTooLong}
@@ -25,16 +25,15 @@ use Rattle.def_wire.specs.Packet.{announced_of, is_padded, version_of}
 use Rattle.def_wire.specs.Bytes.{byte_at, four}
 use Rattle.def_wire.specs.Block.{rule, next_fit, type_of, block_length, kind_of, standard_rule, lost_run, has, clear_rule}
 use Rattle.def_portions.specs.declared.Event.{Event}
-use Rattle.def_portions.specs.Events.{Course, course, course_of, need, head_fault, block_fault, rule_of}
+use Rattle.def_portions.specs.Events.{Course, course, need, head_fault, block_fault, rule_of}
 use Rattle.def_portions.specs.Calls.{Call, call_of, past_fault, room_fault}
 use Rattle.def_portions.specs.Lists.{room_in}
 use Rattle.states.specs.declared.Portions.{Portions}
 use Rattle.states.specs.declared.Followed.{Followed}
 use Rattle.states.specs.Steps.{start, head, block, word, low16, low32, fault_of, after, shows}
-use Rattle.states.specs.Call.{announced_by, taken_in, past_of, past_by, call_fault, followed_by}
+use Rattle.states.specs.Call.{announced_by, taken_in, past_of, call_fault, followed_by}
 use Rattle.states.specs.Call.{followed_of, given_by, given_of, Following}
 use Rattle.states.proofs.RunLaws.{after-append, shows-append, after-closed, shows-closed}
-use Rattle.event_lists.specs.Parts.{events_in}
 use Rattle.portions.proofs.MostLaws.{most-shown}
 use Rattle.ask_portions.proofs.InRangeLaws.{Bounded, bounded-start, bounded-after}
 use Rattle.ask_portions.proofs.ReachedLaws.{takes}

@@ -1,5 +1,5 @@
 -- The text that is printed: TextReachesOut, TextIsHeld, TextEndsAt, DecimalReads.
-use Prim.Native.Nat.{ℕ, zero, suc, ◌+◌, ◌*◌, ◌-◌, ◌/◌, ◌%◌, ◌^◌, ◌≤◌, ◌<◌, min}
+use Prim.Native.Nat.{ℕ, zero, suc, ◌+◌, ◌*◌, ◌-◌, ◌/◌, ◌%◌, ◌^◌, ◌≤◌, ◌<◌}
 use mathlib.Core.Path.{◌≡◌, refl, sym, ap, subst⁻¹, ◌∙◌}
 use mathlib.Core.Bool.{Bool, cond}
 use mathlib.Core.List.{List, [], ◌∷◌, ◌++◌, append-nil, append_assoc}
@@ -7,14 +7,14 @@ use native.Mathlib.Nat.{add-zero, pow-suc, min-eq_left, mod-eq_of_lt, mod_self, 
 use native.Mathlib.Numerals.{add-one}
 use native.Mathlib.Omega.{arith}
 use lib.ListN.{length, take, drop, get_or, set, length-set, length-append, get_or-append}
-use lib.Seq.{sets, sets-eq, take-suc-set, take-length, take_at, drop_at, length-take-le, get_or-append_seam}
+use lib.Seq.{sets-eq, take-suc-set, take-length, take_at, drop_at, length-take-le, get_or-append_seam}
 use lib.Dec.{ltb}
-use borrow.Author.Tests.{lt-ltb, le-ltb, ltb-true, ltb-false}
+use borrow.Author.Tests.{lt-ltb, ltb-true, ltb-false}
 use Rattle.laws.proofs.Tests.{either}
-use Rattle.def_text.specs.Buffer.{goes_to, waits_then, waits_after, held_after, sent_after, Added}
+use Rattle.def_text.specs.Buffer.{goes_to, waits_then, waits_after, held_after, sent_after}
 use Rattle.def_text.specs.Numerals.{glyph, decimal_within}
-use Rattle.print.proofs.AddedLaws.{length-held, goes-here, goes-front, waits_there, waits-fits, held_fits, same}
-use Rattle.claims.specs.Text.{TextReachesOut, Held, TextIsHeld, TextEndsAt, read_on, Decimal, DecimalReads}
+use Rattle.print.proofs.AddedLaws.{goes-here, goes-front, waits_there, waits-fits, held_fits, same}
+use Rattle.claims.specs.Text.{TextReachesOut, TextIsHeld, TextEndsAt, read_on, Decimal, DecimalReads}
 
 -- one more byte waits
 waits_front : (n at : ℕ) → 0 < n → n ≤ at → waits_then n at ≡ 1

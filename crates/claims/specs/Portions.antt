@@ -17,7 +17,7 @@ use Rattle.def_wire.specs.Bytes.{byte_at}
 use Rattle.def_wire.specs.Packet.{count_of, is_padded}
 use Rattle.def_portions.specs.declared.Event.{Event}
 use Rattle.def_portions.specs.Events.{course, course_of}
-use Rattle.def_portions.specs.Calls.{Call, call_of, past_fault}
+use Rattle.def_portions.specs.Calls.{call_of, past_fault}
 use Rattle.def_portions.specs.Lists.{room_in}
 use Rattle.states.specs.declared.Portions.{Portions}
 use Rattle.states.specs.declared.Followed.{Followed}
