@@ -53,7 +53,7 @@ returns-then-first-ne2 c = header-version c.args.r c.args.s.now (long (goal.at.r
     c.if-first-ne2.true
 
 pub returns-then-kind : goal.returns-then-kind
-returns-then-kind c = header-type c.args.r c.args.s.now (long (goal.at.returns-then-kind c).Else-s-fewest) c.if-first-ne2.false c.if-kind.true
+returns-then-kind c = header-type c.args.r c.args.s.now (long (goal.at.returns-then-kind c).Else-s-fewest) (omega arith) c.if-kind.true
 
 pub length_at-says-requires : goal.length_at-says-requires
 length_at-says-requires c = omega (arith, at-least-8 (goal.at.length_at-says-requires c).Else-s-fewest)
