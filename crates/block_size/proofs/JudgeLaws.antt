@@ -1,18 +1,19 @@
 -- When a record asks for a block and is good, with the tests that lead there as premises. Assumes nothing.
---     fields-are           what `has_fields` says of a body
+--     fields-short, ..     the tests of `has_fields` in turn
+--     fields-are           what it says of a body
 --     words-short, ..      the tests of a body of words in turn
 --     sums-other, ..       the tests of a summary's body in turn
 --     good-words           what they say of it
 --     block-as             `is_block_job` by the record's kind
-use Prim.Native.Nat.{ℕ}
+use Prim.Native.Nat.{ℕ, ◌-◌, ◌%◌, ◌≤◌, ◌<◌}
 use mathlib.Core.Path.{◌≡◌, ap, ◌∙◌}
 use mathlib.Core.Bool.{Bool, true, false, not}
 use mathlib.Core.List.{List}
 use native.Mathlib.Omega.{arith}
 use lib.ListN.{length, take, drop, length-drop}
 use lib.Seq.{take_all}
-use lib.Dec.{leb}
-use borrow.Author.Tests.{leb-true, eqb-true, eq-eqb, ne_eqb}
+use lib.Dec.{leb, eqb}
+use borrow.Author.Tests.{le-leb, lt-leb, leb-true, eqb-true, eq-eqb, ne_eqb}
 use Rattle.laws.proofs.Tests.{and-true}
 use Rattle.def_wire.specs.declared.KindOr.{KindOr}
 use Rattle.def_wire.specs.Block.{lost_run, has, kind_of}
@@ -21,6 +22,16 @@ use Rattle.def_jobs.specs.Jobs.{Job, le16, low16, job_flags, has_fields, is_flag
 use Rattle.block_size.specs.Judged.{Fielded, has_words}
 
 module _ (j : Job) where
+  pub fields-short : (bytes : ℕ) → length j.body < 10 → false ≡ has_fields j bytes
+  fields-short bytes h = rw (lt-leb _ _ h)
+
+  module _ (bytes : ℕ) (h : 10 ≤ length j.body) (n : ℕ) (t : n ≡ le16 j.body 8) where
+    pub fields_thin : 15 < n → false ≡ has_fields j bytes
+    fields_thin k = rw (le-leb _ _ h, ← t, lt-leb _ _ k)
+
+    pub fields-whole : n ≤ 15 → eqb ((length j.body - 10) % bytes) 0 ≡ has_fields j bytes
+    fields-whole k = rw (le-leb _ _ h, ← t, le-leb _ _ k)
+
   pub fields-are : (bytes : ℕ) → has_fields j bytes ≡ true → Fielded j.body bytes
   fields-are bytes e =
       let p = and-true (leb 10 (length j.body)) _ e in

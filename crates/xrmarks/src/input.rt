@@ -2,7 +2,7 @@
 // neither 0 nor 1.
 ghost use Rattle.std.specs.Prelude.{◌+◌, ◌≤◌, ◌<◌, length};
 
-use std::io::{Read, Stdin};
+use std::io::Stdin;
 
 // How many bytes are read at once, and how often at most. A proved loop has to end: no run comes to so many turns, and
 // the count of marks stays under 2^63.
@@ -12,7 +12,7 @@ const TURNS: usize = 140737488355327;
 
 // How many marks there are, and whether the input was read to its end.
 #[derive(Drop)]
-pub struct Marks {
+pub struct Read {
     pub count: usize,
     pub whole: bool,
 }
@@ -82,7 +82,7 @@ fn read_piece(from: &mut Stdin, marks: &mut [u8], count: usize) -> Turn
     ensures { result.count ≤ count + 65536 }
 {
     let mut piece = [0u8; PIECE];
-    let read = from.read(&mut piece);
+    let read = std::io::Read::read(from, &mut piece);
     let failed = read.is_err();
     let got = read.unwrap_or(0);
     Turn {
@@ -93,7 +93,7 @@ fn read_piece(from: &mut Stdin, marks: &mut [u8], count: usize) -> Turn
 }
 
 // All marks are counted, and those that there is room for are kept.
-pub fn read_marks(stdin: Stdin, marks: &mut [u8]) -> Marks {
+pub fn read_marks(stdin: Stdin, marks: &mut [u8]) -> Read {
     let mut from = stdin;
     let mut left = TURNS;
     let mut count: usize = 0;
@@ -101,14 +101,14 @@ pub fn read_marks(stdin: Stdin, marks: &mut [u8]) -> Marks {
         let t = read_piece(&mut from, marks, count);
         count = t.count;
         if t.got == 0 {
-            return Marks {
+            return Read {
                 count,
                 whole: !t.failed,
             };
         }
         left -= 1;
     }
-    Marks {
+    Read {
         count,
         whole: false,
     }
