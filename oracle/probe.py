@@ -5,7 +5,6 @@ answer     text lines, without the `.` behind them; None where the run is cut
 The kinds are those of README.md, "xrprobe". Numbers are little-endian.
 """
 import os
-import platform
 import struct
 import subprocess
 import sys
@@ -60,14 +59,7 @@ def command():
                            stdin=subprocess.DEVNULL, stdout=subprocess.PIPE)
     if first.returncode != 0 or first.stdout != b"":
         sys.exit("xrprobe: it does not run, or says something on empty input")
-    doc = subprocess.run(["rt", "doc"], stdout=subprocess.PIPE, check=True, text=True).stdout.strip()
-    kit = os.path.dirname(os.path.dirname(doc))
-    tools = os.path.join(kit, "on", platform.machine(), "toolchain")
-    emulator = os.path.join(tools, "bin", "qemu-x86_64")
-    lib = os.path.join(tools, "lib")
-    return ([emulator] if os.access(emulator, os.X_OK) else []) + [
-        os.path.join(lib, "ld-linux-x86-64.so.2"), "--library-path", lib,
-        os.path.join(ROOT, "target", "bin", "xrprobe")]
+    return [os.path.join(ROOT, "crates", "xrprobe", "out", "xrprobe")]
 
 
 def run(how, data):
