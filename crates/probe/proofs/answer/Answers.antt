@@ -3,6 +3,7 @@ use Rattle.probe.proofs.ReplyLaws.{replies, is-told, is_cut}
 use Rattle.probe.proofs.KindLaws.{kind_1, kind_2, kind_3, kind-4, kind-5, kind-6, kind-7, kind-8}
 use Rattle.probe.proofs.KindLaws.{kind-9, kind-10, kind-11, kind-12, kind-13, kind-14, kind-other}
 use native.Mathlib.Omega.{arith}
+use borrow.Author.Rules.{rules}
 use Rattle.probe.proofs.answer.Goals as goal
 
 pub returns-in-1 : goal.returns-in-1
@@ -38,8 +39,11 @@ returns-in-8 c = let q = replies (kind-8 _ _ c.in-8.is) c.parse_asked.ensures in
     record { added = q.text; served_value = q.served }
 
 pub returns-in-9 : goal.returns-in-9
-returns-in-9 c = let q = replies (kind-9 _ _ c.in-9.is) c.words_asked.ensures in
-    record { added = q.text; served_value = q.served }
+returns-in-9 c =
+    record {
+      added = rw (← kind-9 c.args.kind c.args.p.now c.in-9.is) (search rules);
+      served_value = rw (← kind-9 c.args.kind c.args.p.now c.in-9.is) (search rules);
+    }
 
 pub returns-in-10 : goal.returns-in-10
 returns-in-10 c = let q = replies (kind-10 _ _ c.in-10.is) c.marks_asked.ensures in
@@ -58,8 +62,11 @@ returns-in-13 c = let q = replies (kind-13 _ _ c.in-13.is) c.summary_asked.ensur
     record { added = q.text; served_value = q.served }
 
 pub returns-in-14 : goal.returns-in-14
-returns-in-14 c = let q = replies (kind-14 _ _ c.in-14.is) c.numbers_asked.ensures in
-    record { added = q.text; served_value = q.served }
+returns-in-14 c =
+    record {
+      added = rw (← kind-14 c.args.kind c.args.p.now c.in-14.is) (search rules);
+      served_value = rw (← kind-14 c.args.kind c.args.p.now c.in-14.is) (search rules);
+    }
 
 pub returns-in_default : goal.returns-in_default
 returns-in_default c =
