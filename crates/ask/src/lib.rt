@@ -19,10 +19,10 @@ ghost use Rattle.lent.specs.Pattern.{mark8};
 ghost use Rattle.lent.specs.Telling.{tell_list};
 
 use def_jobs::Layout;
-use def_refusals::Answer;
+use def_refusals::Refusal;
 use def_standard::Chunk;
-use def_wire::{FieldsOr, Located, Reading, SummaryOr, TimeOr};
-use xr::Parsed;
+use def_wire::Reading;
+use xr::Xr;
 
 // The most room that is lent to a packet.
 const MOST: usize = 262144;
@@ -32,8 +32,8 @@ pub fn fields(r: Reading, s: &[u8], k: usize, t: u8, buf: &mut [u8], at: usize) 
     ensures { Added buf.old at (fields_told (fields_by r s.now k t)) buf.new result }
 {
     match by_number::fields(r, s, k, t) {
-        FieldsOr::Shown(f) => lines::fields_line(buf, at, f),
-        FieldsOr::NoneOf(x) => lines::refusal_line(buf, at, x),
+        Ok(f) => lines::fields_line(buf, at, f),
+        Err(x) => lines::refusal_line(buf, at, x),
     }
 }
 
@@ -42,8 +42,8 @@ pub fn time(r: Reading, s: &[u8], k: usize, buf: &mut [u8], at: usize) -> usize
     ensures { Added buf.old at (time_told (time_asked r s.now k)) buf.new result }
 {
     match block::time_in(r, s, k) {
-        TimeOr::Time(t) => lines::time_line(buf, at, t.0),
-        TimeOr::NoTime(x) => lines::refusal_line(buf, at, x),
+        Ok(t) => lines::time_line(buf, at, t.0),
+        Err(x) => lines::refusal_line(buf, at, x),
     }
 }
 
@@ -53,8 +53,8 @@ pub fn summed(r: Reading, s: &[u8], k: usize, buf: &mut [u8], at: usize) -> usiz
         buf.new result }
 {
     match summary::summary_in(r, s, k) {
-        SummaryOr::Stated(x) => summary_lines::summary_lines(buf, at, x),
-        SummaryOr::NoSummary(x) => lines::refusal_line(buf, at, x),
+        Ok(x) => summary_lines::summary_lines(buf, at, x),
+        Err(x) => lines::refusal_line(buf, at, x),
     }
 }
 
@@ -64,8 +64,8 @@ pub fn parsed(r: Reading, s: &[u8], buf: &mut [u8], at: usize) -> usize
         buf.new result }
 {
     match xr::Xr::parse(r, s) {
-        Parsed::Packet(x) => lines::blocks_line(buf, at, x.blocks, x.ssrc),
-        Parsed::Unread(x) => lines::refusal_line(buf, at, x),
+        Ok(x) => lines::blocks_line(buf, at, x.blocks, x.ssrc),
+        Err(x) => lines::refusal_line(buf, at, x),
     }
 }
 
@@ -75,32 +75,32 @@ pub fn viewed(r: Reading, s: &[u8], k: usize, buf: &mut [u8], at: usize) -> usiz
         buf.new result }
 {
     match xr::locate(r, s, k) {
-        Located::At(offset, size) => {
+        Ok((offset, size)) => {
             let h = xr::header_data(xr::view(r, s, k));
             lines::view_line(buf, at, offset, size, &h)
         }
-        Located::Missing(x) => lines::refusal_line(buf, at, x),
+        Err(x) => lines::refusal_line(buf, at, x),
     }
 }
 
-fn tell_packet(buf: &mut [u8], at: usize, out: &[u8], a: Answer) -> usize
+fn tell_packet(buf: &mut [u8], at: usize, out: &[u8], a: Result<usize, Refusal>) -> usize
     ensures { Added buf.old at (tell_list mark8 packet_line a out.now)
         buf.new result }
 {
     match a {
-        Answer::Done(n) => {
+        Ok(n) => {
             let m = lines::packet_line(buf, at, out, n);
-            lent::said_whole(buf, m, lent::stands8(out, n))
+            lent::said_whole(buf, m, lent::stands(out, n))
         }
-        Answer::Refused(x) => {
+        Err(x) => {
             let m = lines::refusal_line(buf, at, x);
-            lent::said_whole(buf, m, lent::stands8(out, 0))
+            lent::said_whole(buf, m, lent::stands(out, 0))
         }
     }
 }
 
 // The packet of a job list in a layout.
-fn write_in(layout: Layout, list: &[u8], out: &mut [u8]) -> Answer
+fn write_in(layout: Layout, list: &[u8], out: &mut [u8]) -> Result<usize, Refusal>
     ensures { Listed (packet_of layout list.now) out.old result out.new }
 {
     match layout {
@@ -113,7 +113,7 @@ fn written_into(layout: Layout, list: &[u8], out: &mut [u8], buf: &mut [u8], at:
     ensures { Added buf.old at
         (line_in (length out.old) packet_line (packet_of layout list.now)) buf.new result }
 {
-    lent::fill8(out);
+    lent::fill(out);
     let a = write_in(layout, list, out);
     tell_packet(buf, at, out, a)
 }
@@ -135,17 +135,17 @@ fn word_of(buf: &mut [u8], at: usize, bytes: &[u8]) -> usize
     lines::word_line(buf, at, utils::byte_at(bytes, 0), utils::byte_at(bytes, 1))
 }
 
-fn tell_word(buf: &mut [u8], at: usize, out: &[u8], a: Answer) -> usize
+fn tell_word(buf: &mut [u8], at: usize, out: &[u8], a: Result<usize, Refusal>) -> usize
     ensures { Added buf.old at (tell_list mark8 word_told a out.now) buf.new result }
 {
     match a {
-        Answer::Done(n) => {
+        Ok(n) => {
             let m = word_of(buf, at, utils::part(out, 0, n));
-            lent::said_whole(buf, m, lent::stands8(out, n))
+            lent::said_whole(buf, m, lent::stands(out, n))
         }
-        Answer::Refused(x) => {
+        Err(x) => {
             let m = lines::refusal_line(buf, at, x);
-            lent::said_whole(buf, m, lent::stands8(out, 0))
+            lent::said_whole(buf, m, lent::stands(out, 0))
         }
     }
 }
@@ -154,7 +154,7 @@ fn made_into(chunk: Chunk, out: &mut [u8], buf: &mut [u8], at: usize) -> usize
     ensures { Added buf.old at
         (line_in (length out.old) word_told (word_bytes chunk)) buf.new result }
 {
-    lent::fill8(out);
+    lent::fill(out);
     let a = chunk::write_chunk(chunk, out);
     tell_word(buf, at, out, a)
 }

@@ -14,8 +14,8 @@ ghost use Rattle.def_probe.specs.Requests.{most_listed, line_in, stretch_in};
 ghost use Rattle.lent.specs.Pattern.{mark16};
 ghost use Rattle.lent.specs.Telling.{whole_entries, tell_list, tell_pairs, tell_entries, tell_stretch};
 
-use def_cursor::{Advanced, Cursor};
-use def_refusals::Answer;
+use def_cursor::{Cursor, Stretch};
+use def_refusals::Refusal;
 use def_wire::Reading;
 
 // The most room of a list.
@@ -27,34 +27,34 @@ fn both(a: bool, b: bool) -> bool
     if a { b } else { false }
 }
 
-fn tell_numbers(buf: &mut [u8], at: usize, list: &[u16], a: Answer) -> usize
+fn tell_numbers(buf: &mut [u8], at: usize, list: &[u16], a: Result<usize, Refusal>) -> usize
     ensures { Added buf.old at (tell_list mark16 numbers_line a list.now)
         buf.new result }
 {
     match a {
-        Answer::Done(n) => {
+        Ok(n) => {
             let m = lines::numbers_line(buf, at, list, n);
-            lent::said_whole(buf, m, lent::stands16(list, n))
+            lent::said_whole(buf, m, lent::stands(list, n))
         }
-        Answer::Refused(x) => {
+        Err(x) => {
             let m = lines::refusal_line(buf, at, x);
-            lent::said_whole(buf, m, lent::stands16(list, 0))
+            lent::said_whole(buf, m, lent::stands(list, 0))
         }
     }
 }
 
-fn tell_words(buf: &mut [u8], at: usize, list: &[u16], a: Answer) -> usize
+fn tell_words(buf: &mut [u8], at: usize, list: &[u16], a: Result<usize, Refusal>) -> usize
     ensures { Added buf.old at (tell_list mark16 words_line a list.now)
         buf.new result }
 {
     match a {
-        Answer::Done(n) => {
+        Ok(n) => {
             let m = lines::words_line(buf, at, list, n);
-            lent::said_whole(buf, m, lent::stands16(list, n))
+            lent::said_whole(buf, m, lent::stands(list, n))
         }
-        Answer::Refused(x) => {
+        Err(x) => {
             let m = lines::refusal_line(buf, at, x);
-            lent::said_whole(buf, m, lent::stands16(list, 0))
+            lent::said_whole(buf, m, lent::stands(list, 0))
         }
     }
 }
@@ -71,7 +71,7 @@ fn numbers_into(
     ensures { Added buf.old at
         (line_in (length list.old) numbers_line (numbers_by r s.now k t)) buf.new result }
 {
-    lent::fill16(list);
+    lent::fill(list);
     let a = by_number::numbers(r, s, k, t, list);
     tell_numbers(buf, at, list, a)
 }
@@ -106,7 +106,7 @@ fn words_into(
     ensures { Added buf.old at
         (line_in (length list.old) words_line (words_by r s.now k t)) buf.new result }
 {
-    lent::fill16(list);
+    lent::fill(list);
     let a = by_number::words(r, s, k, t, list);
     tell_words(buf, at, list, a)
 }
@@ -125,7 +125,7 @@ fn made_into(ms: &[u8], list: &mut [u16], buf: &mut [u8], at: usize) -> usize
     ensures { Added buf.old at
         (line_in (length list.old) words_line (marks_asked ms.now)) buf.new result }
 {
-    lent::fill16(list);
+    lent::fill(list);
     let a = marks::words(ms, list);
     tell_words(buf, at, list, a)
 }
@@ -140,18 +140,18 @@ pub fn made(ms: &[u8], room: usize, buf: &mut [u8], at: usize) -> usize
     made_into(ms, &mut list[0..n], buf, at)
 }
 
-fn tell_pairs(buf: &mut [u8], at: usize, ns: &[u16], ts: &[u32], a: Answer) -> usize
+fn tell_pairs(buf: &mut [u8], at: usize, ns: &[u16], ts: &[u32], a: Result<usize, Refusal>) -> usize
     ensures { Added buf.old at (tell_pairs a ns.now ts.now)
         buf.new result }
 {
     match a {
-        Answer::Done(n) => {
+        Ok(n) => {
             let m = lines::pairs_line(buf, at, ns, ts, n);
-            lent::said_whole(buf, m, both(lent::stands16(ns, n), lent::stands32(ts, n)))
+            lent::said_whole(buf, m, both(lent::stands(ns, n), lent::stands(ts, n)))
         }
-        Answer::Refused(x) => {
+        Err(x) => {
             let m = lines::refusal_line(buf, at, x);
-            lent::said_whole(buf, m, both(lent::stands16(ns, 0), lent::stands32(ts, 0)))
+            lent::said_whole(buf, m, both(lent::stands(ns, 0), lent::stands(ts, 0)))
         }
     }
 }
@@ -170,8 +170,8 @@ fn pairs_into(
     ensures { Added buf.old at
         (line_in (length ns.old) pairs_line (pairs_asked r s.now k)) buf.new result }
 {
-    lent::fill16(ns);
-    lent::fill32(ts);
+    lent::fill(ns);
+    lent::fill(ts);
     let a = packet_receipt_time::pairs_in(r, s, k, ns, ts);
     tell_pairs(buf, at, ns, ts, a)
 }
@@ -191,20 +191,27 @@ pub fn pairs(r: Reading, s: &[u8], k: usize, room: usize, buf: &mut [u8], at: us
 fn stand(a: &[u32], b: &[u32], c: &[u32], n: usize) -> bool
     ensures { result ≡ whole_entries n a.now b.now c.now }
 {
-    let bc = both(lent::stands32(b, n), lent::stands32(c, n));
-    both(lent::stands32(a, n), bc)
+    let bc = both(lent::stands(b, n), lent::stands(c, n));
+    both(lent::stands(a, n), bc)
 }
 
-fn tell_entries(buf: &mut [u8], at: usize, a: &[u32], b: &[u32], c: &[u32], r: Answer) -> usize
+fn tell_entries(
+    buf: &mut [u8],
+    at: usize,
+    a: &[u32],
+    b: &[u32],
+    c: &[u32],
+    r: Result<usize, Refusal>,
+) -> usize
     ensures { Added buf.old at
         (tell_entries r a.now b.now c.now) buf.new result }
 {
     match r {
-        Answer::Done(n) => {
+        Ok(n) => {
             let m = lines::entries_line(buf, at, a, b, c, n);
             lent::said_whole(buf, m, stand(a, b, c, n))
         }
-        Answer::Refused(x) => {
+        Err(x) => {
             let m = lines::refusal_line(buf, at, x);
             lent::said_whole(buf, m, stand(a, b, c, 0))
         }
@@ -226,9 +233,9 @@ fn entries_into(
     ensures { Added buf.old at
         (line_in (length a.old) entries_line (entries_asked r s.now k)) buf.new result }
 {
-    lent::fill32(a);
-    lent::fill32(b);
-    lent::fill32(c);
+    lent::fill(a);
+    lent::fill(b);
+    lent::fill(c);
     let x = dlrr::entries_in(r, s, k, a, b, c);
     tell_entries(buf, at, a, b, c, x)
 }
@@ -245,19 +252,19 @@ pub fn entries(r: Reading, s: &[u8], k: usize, room: usize, buf: &mut [u8], at: 
     entries_into(r, s, k, &mut a[0..n], &mut b[0..n], &mut c[0..n], buf, at)
 }
 
-fn tell_stretch(buf: &mut [u8], at: usize, list: &[u16], a: Advanced) -> usize
+fn tell_stretch(buf: &mut [u8], at: usize, list: &[u16], a: Result<Stretch, Refusal>) -> usize
     ensures { Added buf.old at (tell_stretch a list.now) buf.new result }
 {
     match a {
-        Advanced::Moved(g) => {
+        Ok(g) => {
             let next = g.next;
             let n = lines::taken_line(buf, at, g.taken, next);
             let m = lines::numbers_line(buf, n, list, g.listed);
-            lent::said_whole(buf, m, lent::stands16(list, g.listed))
+            lent::said_whole(buf, m, lent::stands(list, g.listed))
         }
-        Advanced::Stuck(x) => {
+        Err(x) => {
             let m = lines::refusal_line(buf, at, x);
-            lent::said_whole(buf, m, lent::stands16(list, 0))
+            lent::said_whole(buf, m, lent::stands(list, 0))
         }
     }
 }
@@ -275,7 +282,7 @@ fn stretch_into(
     ensures { Added buf.old at
         (stretch_in s.now k t c budget (length list.old)) buf.new result }
 {
-    lent::fill16(list);
+    lent::fill(list);
     let a = by_number::advance(s, k, t, c, budget, list);
     tell_stretch(buf, at, list, a)
 }

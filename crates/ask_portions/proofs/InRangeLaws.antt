@@ -2,18 +2,18 @@
 -- Assumes nothing.
 --     Bounded             the numbers of a state that events repeat are within their types
 --     shows-in-range      the events of bytes from a bounded state on
+use Rattle.std.specs.Prelude.{Option, Ok, Err, Some, None}
 use Prim.Native.Nat.{ℕ, ◌+◌, ◌-◌, ◌/◌, ◌^◌, ◌<◌}
 use mathlib.Core.Bool.{Bool, true, false}
 use mathlib.Core.List.{List, [], ◌∷◌, map}
 use native.Mathlib.Nat.{mod-lt}
 use native.Mathlib.Omega.{arith}
 use lib.Dec.{eqb, lit<}
+use Rattle.def_refusals.specs.Answers.{Or}
+use Rattle.def_wire.specs.declared.Kind.{Kind}
+use Rattle.def_portions.specs.declared.Event.{Event}
 use Rattle.laws.proofs.Tests.{either, both}
-use Rattle.def_refusals.specs.declared.Checked.{Checked}
-use Rattle.def_refusals.specs.declared.Checked.TheVariants.{Fine, Unfit}
 use Rattle.def_wire.specs.declared.Kind.TheVariants.{Spans, Clock, Echoes, Statistics}
-use Rattle.def_wire.specs.declared.KindOr.{KindOr}
-use Rattle.def_wire.specs.declared.KindOr.TheVariants.{AKind, NoKind}
 use Rattle.def_wire.specs.declared.Spread.{Spread}
 use Rattle.def_wire.specs.declared.ByteSpread.{ByteSpread}
 use Rattle.def_wire.specs.declared.Sums.{Sums}
@@ -30,7 +30,6 @@ use Rattle.ones.specs.Along.{along}
 use Rattle.states.specs.declared.Kept.{Kept}
 use Rattle.states.specs.declared.Known.{Known}
 use Rattle.states.specs.declared.Portions.{Portions}
-use Rattle.states.specs.declared.Lone.{Lone}
 use Rattle.states.specs.Steps.{head, sender, block, fields, word, time, whose, echo, clock, over, sums, hops}
 use Rattle.states.specs.Steps.{hold, known, type_in, thinning_in, low16, low32, high32, fields_in, summing, sums_in}
 use Rattle.states.specs.Steps.{item_fault, next_block, opened, opened_by, in_block, ranged, moved, in_packet}
@@ -74,12 +73,12 @@ along-in step first (v ∷ vs) h =
     let rest = along-in step (onward step first) vs (mod-lt (first + step) (lit< tt)) in
     either (eqb v 1) (λ t. rw t (in_both (in_number h) rest)) (λ f. rw f rest)
 
-start-in : (k : KindOr) (w : ℕ) → AllInRange (list_of (start_in k w))
-start-in (AKind (Spans g)) w = none_left
-start-in (AKind Clock) w = in_both (in_start (type-lt w) (length-lt w)) none_left
-start-in (AKind Echoes) w = in_both (in_start (type-lt w) (length-lt w)) none_left
-start-in (AKind Statistics) w = in_both (in_start (type-lt w) (length-lt w)) none_left
-start-in NoKind w = in_both (in_start (type-lt w) (length-lt w)) none_left
+start-in : (k : Option Kind) (w : ℕ) → AllInRange (list_of (start_in k w))
+start-in (Some (Spans g)) w = none_left
+start-in (Some Clock) w = in_both (in_start (type-lt w) (length-lt w)) none_left
+start-in (Some Echoes) w = in_both (in_start (type-lt w) (length-lt w)) none_left
+start-in (Some Statistics) w = in_both (in_start (type-lt w) (length-lt w)) none_left
+start-in None w = in_both (in_start (type-lt w) (length-lt w)) none_left
 
 -- the numbers of a summary, and what is shown of them: each as it stands, or 0
 sums-in : (x : Kept) (h : ℕ) → SumsInRange (sums_in x h)
@@ -136,7 +135,7 @@ sums-shown flags n r =
       hops_deviation = hops-in (λ (x : ByteSpread). x.deviation < 256) (omega arith) o n.hops r.hops_deviation;
     }
 
-abbrev LoneIn : Lone → Type 0
+abbrev LoneIn : Option Event → Type 0
 LoneIn x = AllInRange (list_of x)
 
 lone-in : (st : Portions) → Bounded st → LoneIn (lone_of st)
@@ -169,9 +168,9 @@ settled-in : (st : Portions) → Bounded st → AllInRange (settled_events st)
 unfolding settled_events
 settled-in st b = both AllInRange (eqb st.missing 0) (λ t. on (item_fault st)) (λ t. none_left)
   where
-    on : (x : Checked) → AllInRange (shown_on x st)
-    on Fine = all_append (shown-in st b) (end-in (passed st))
-    on (Unfit x) = none_left
+    on : (x : Or (Unit {0})) → AllInRange (shown_on x st)
+    on (Ok _) = all_append (shown-in st b) (end-in (passed st))
+    on (Err x) = none_left
 
 -- ---- the state behind it
 
@@ -189,12 +188,12 @@ opened_in : (k : Known) (rest behind item size : ℕ) → BoundedIn k → Bounde
 unfolding opened
 opened_in k rest behind item size b = both Bounded (eqb rest 0) (λ t. next_block-in k behind b) (λ t. b)
 
-by_kind : (x : KindOr) (k : Known) (rest behind : ℕ) → BoundedIn k → Bounded (opened_by x k rest behind)
-by_kind (AKind (Spans g)) k rest behind b = opened_in k rest behind fields 8 b
-by_kind (AKind Clock) k rest behind b = opened_in k rest behind clock 8 b
-by_kind (AKind Echoes) k rest behind b = opened_in k rest behind whose 4 b
-by_kind (AKind Statistics) k rest behind b = opened_in k rest behind sums 8 b
-by_kind NoKind k rest behind b = opened_in k rest behind _ rest b
+by_kind : (x : Option Kind) (k : Known) (rest behind : ℕ) → BoundedIn k → Bounded (opened_by x k rest behind)
+by_kind (Some (Spans g)) k rest behind b = opened_in k rest behind fields 8 b
+by_kind (Some Clock) k rest behind b = opened_in k rest behind clock 8 b
+by_kind (Some Echoes) k rest behind b = opened_in k rest behind whose 4 b
+by_kind (Some Statistics) k rest behind b = opened_in k rest behind sums 8 b
+by_kind None k rest behind b = opened_in k rest behind _ rest b
 
 in_block-in : (announced behind w : ℕ) → announced < 2 ^ 32 → Bounded (in_block announced behind w)
 unfolding in_block
@@ -244,9 +243,9 @@ next-in st c b =
     both Bounded (eqb st.missing 0) (λ t. b)
     (λ t. both Bounded (eqb (hold st c).missing 0) (λ t. on (item_fault (hold st c))) (λ t. b))
   where
-    on : (x : Checked) → Bounded (passed_on x (hold st c))
-    on Fine = passed-in (hold st c) b
-    on (Unfit x) = b
+    on : (x : Or (Unit {0})) → Bounded (passed_on x (hold st c))
+    on (Ok _) = passed-in (hold st c) b
+    on (Err x) = b
 
 -- ---- runs
 

@@ -3,6 +3,7 @@
 --     reached-none, -next     before the first call, and behind a call
 --     next-text               the text from a call on: its own, and that of the calls behind it
 --     last-text, no_text      the text where no size is left: of the call for the other bytes, or none
+use Rattle.std.specs.Prelude.{Ok, Err}
 use Prim.Native.Nat.{ℕ, ◌+◌, ◌-◌, ◌≤◌}
 use mathlib.Core.Path.{◌≡◌, refl, sym, ap, ◌∙◌}
 use mathlib.Core.List.{List, [], ◌∷◌, ◌++◌, append-nil}
@@ -11,9 +12,7 @@ use lib.ListN.{length, take, drop, length-append, length-take, length-drop}
 use lib.Seq.{take_all, take-length, take-take, take-add, drop-drop}
 use borrow.Author.Tests.{eq-eqb, ne_eqb}
 use Rattle.utils.proofs.BytesLaws.{Bytes}
-use Rattle.def_refusals.specs.declared.Checked.{Checked}
-use Rattle.def_refusals.specs.declared.Checked.TheVariants.{Fine, Unfit}
-use Rattle.def_refusals.specs.Answers.{then_check}
+use Rattle.def_refusals.specs.Answers.{then_check, Or}
 use Rattle.def_portions.specs.declared.Event.{Event}
 use Rattle.def_portions.specs.Events.{course_of}
 use Rattle.def_portions.specs.Calls.{Call, or_kept, past_fault, added, room_fault, call_of}
@@ -39,11 +38,11 @@ module _ (b y : List ℕ) where
       let z : length (b ++ y) - length b ≡ length y = omega (arith, length-append b y) in
       (rw (z, take-length y), omega (arith, z))
 
-  takes-by : (f g : Checked) (es : List Event) (r : Checked)
+  takes-by : (f g : Or (Unit {0})) (es : List Event) (r : Or (Unit {0}))
       → Takes (or_kept b f (or_kept b g (record { events = es; refusal = r; taken = b ++ y })))
-  takes-by (Unfit x) g es r = takes_none
-  takes-by Fine (Unfit x) es r = takes_none
-  takes-by Fine Fine es r = takes_all
+  takes-by (Err x) g es r = takes_none
+  takes-by (Ok _) (Err x) es r = takes_none
+  takes-by (Ok _) (Ok _) es r = takes_all
 
   pub takes : (room : ℕ) → Takes (call_of b y room)
   unfolding call_of
@@ -56,7 +55,7 @@ module _ (b y : List ℕ) where
 pub record Reached (x : List ℕ) (st : Portions) (from : ℕ) : Type 0 where
   pub inside : from ≤ length x
   pub state : st ≡ after start (take from x)
-  pub fine : past_fault (take from x) ≡ Fine
+  pub fine : past_fault (take from x) ≡ Ok tt
 
 -- nothing yet
 pub reached-none : (x : List ℕ) {st : Portions} → st ≡ start → Reached x st 0

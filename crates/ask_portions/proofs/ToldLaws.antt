@@ -1,13 +1,13 @@
 -- One call on a state: its events read back from the lists, and its lines. Assumes nothing.
 --     given-count, given-most     how many events it lists, and that there is room for them
 --     telling                     the contract, where its events' lines were added, and the line behind them
+use Rattle.std.specs.Prelude.{Ok, Err}
 use Prim.Native.Nat.{ℕ, ◌+◌, ◌≤◌}
 use mathlib.Core.Path.{◌≡◌, refl, ap, ◌∙◌}
 use mathlib.Core.List.{List, ◌++◌}
 use native.Mathlib.Omega.{arith}
 use lib.ListN.{length}
-use Rattle.def_refusals.specs.declared.Checked.{Checked}
-use Rattle.def_refusals.specs.declared.Checked.TheVariants.{Fine, Unfit}
+use Rattle.def_refusals.specs.Answers.{Or}
 use Rattle.def_portions.specs.Lists.{room_in}
 use Rattle.def_portions.specs.declared.Event.{Event}
 use Rattle.def_dump.specs.EventLines.{event_lines}
@@ -25,18 +25,18 @@ use Rattle.ask_portions.proofs.InRangeLaws.{Bounded, shows-in-range}
 
 module _ (st : Portions) (x : List ℕ) where
   -- by the refusal of a call that takes nothing
-  count_by : (f : Checked) → (followed_by f st x).events ≡ length (given_by f st x)
-  count_by Fine = refl
-  count_by (Unfit y) = refl
+  count_by : (f : Or (Unit {0})) → (followed_by f st x).events ≡ length (given_by f st x)
+  count_by (Ok _) = refl
+  count_by (Err y) = refl
 
-  in-range-by : (f : Checked) → Bounded st → AllInRange (given_by f st x)
-  in-range-by Fine b = shows-in-range st x b
-  in-range-by (Unfit y) b = none_left
+  in-range-by : (f : Or (Unit {0})) → Bounded st → AllInRange (given_by f st x)
+  in-range-by (Ok _) b = shows-in-range st x b
+  in-range-by (Err y) b = none_left
 
   module _ (room : ℕ) where
-    most-by : (f : Checked) → call_fault st x room ≡ f → length (given_by f st x) ≤ room
-    most-by Fine e = room-fine st x room e
-    most-by (Unfit y) e = omega arith
+    most-by : (f : Or (Unit {0})) → call_fault st x room ≡ f → length (given_by f st x) ≤ room
+    most-by (Ok _) e = room-fine st x room e
+    most-by (Err y) e = omega arith
 
     pub given-count : (followed_of st x room).events ≡ length (given_of st x room)
     unfolding followed_of given_of

@@ -10,7 +10,7 @@ ghost use Rattle.def_dump.specs.EventLines.{given_line};
 ghost use Rattle.def_probe.specs.Requests.{ending_of, sizes_at, calls_text, portions_text};
 ghost use Rattle.ask_portions.specs.Told.{Telling};
 
-use def_refusals::Checked;
+use def_refusals::Refusal;
 use states::Portions;
 
 // The most room of a list.
@@ -34,12 +34,12 @@ fn given_line(buf: &mut [u8], at: usize, given: usize, events: usize) -> usize
 }
 
 // What stands behind a call's events: what it took and listed, or why it is refused.
-fn ending(buf: &mut [u8], at: usize, c: Checked, given: usize, events: usize) -> usize
+fn ending(buf: &mut [u8], at: usize, c: Result<(), Refusal>, given: usize, events: usize) -> usize
     ensures { Added buf.old at (ending_of c given events) buf.new result }
 {
     match c {
-        Checked::Fine => given_line(buf, at, given, events),
-        Checked::Unfit(y) => lines::refusal_line(buf, at, y),
+        Ok(()) => given_line(buf, at, given, events),
+        Err(y) => lines::refusal_line(buf, at, y),
     }
 }
 
@@ -89,15 +89,13 @@ fn calls_into(
     let mut st = steps::start();
     let mut from: usize = 0;
     let mut to = at;
-    let mut i: usize = 0;
-    while i < n {
+    for i in 0..n {
         let size = little_endian::u32_from_le_bytes(p, 6 + 4 * i) as usize;
         let y = utils::part(x, from, size);
         let t = one(st, y, tags, numbers, values, sums, buf, to);
         st = t.state;
         from += t.taken;
         to = t.at;
-        i += 1;
     }
     let left = utils::part(x, from, x.len());
     if left.len() == 0 {

@@ -1,4 +1,5 @@
 -- The laws of a block's checks, fields and time: each way in which they end, with what leads there as premises.
+use Rattle.std.specs.Prelude.{Ok, Err}
 use Prim.Native.Nat.{ℕ, ◌+◌, ◌-◌, ◌%◌, ◌≤◌, ◌<◌}
 use mathlib.Core.Path.{◌≡◌}
 use mathlib.Core.Bool.{Bool, true, false, not}
@@ -9,7 +10,6 @@ use borrow.Author.Tests.{le-leb, lt-leb, eq-eqb, ne_eqb}
 use Rattle.laws.proofs.Tests.{either}
 use Rattle.def_refusals.specs.declared.Refusal.{Refusal}
 use Rattle.def_refusals.specs.declared.Refusal.TheVariants.{OtherType, NoFields}
-use Rattle.def_refusals.specs.declared.Checked.TheVariants.{Fine, Unfit}
 use Rattle.def_refusals.specs.Answers.{then_check}
 use Rattle.def_wire.specs.declared.Reading.{Reading}
 use Rattle.def_wire.specs.declared.Reading.TheVariants.{Standard, Crate}
@@ -18,9 +18,6 @@ use Rattle.def_wire.specs.declared.Ranged.{Ranged}
 use Rattle.def_wire.specs.declared.Ranged.TheVariants.{Chunks, Times}
 use Rattle.def_wire.specs.declared.Kind.{Kind}
 use Rattle.def_wire.specs.declared.Kind.TheVariants.{Spans, Clock, Echoes, Statistics}
-use Rattle.def_wire.specs.declared.FieldsOr.TheVariants.{Shown, NoneOf}
-use Rattle.def_wire.specs.declared.TimeOr.TheVariants.{Time, NoTime}
-use Rattle.def_wire.specs.declared.Located.TheVariants.{At, Missing}
 use Rattle.def_wire.specs.Packet.{locate, part}
 use Rattle.def_wire.specs.Block.{type_of, block_length, rle_type, receipt_type, clock_type, echo_type, kind_type, rule}
 use Rattle.def_wire.specs.Block.{summary_type, words_at, standard_rule, lost_run, has}
@@ -32,13 +29,13 @@ use Rattle.block.specs.Lengths.{length_check}
 
 -- 10
 pub check-other : (r : Reading) (k : Kind) (v : List ℕ) → (type_of v ≡ kind_type k → ⊥)
-    → Unfit (OtherType (type_of v)) ≡ check_of r k v
+    → Err (OtherType (type_of v)) ≡ check_of r k v
 unfolding check_of
 check-other r k v n = rw (ne_eqb _ _ n)
 
 -- the same of types 1 and 2 by the length alone
 module _ (a : Rle) (v : List ℕ) where
-  pub length-other : (type_of v ≡ rle_type a → ⊥) → Unfit (OtherType (type_of v)) ≡ length_check a v
+  pub length-other : (type_of v ≡ rle_type a → ⊥) → Err (OtherType (type_of v)) ≡ length_check a v
   unfolding length_check
   length-other n = rw (ne_eqb _ _ n)
 
@@ -81,7 +78,7 @@ module _ (r : Reading) (v : List ℕ) where
     unfolding check_of standard_rule
     times-standard q = rw (eq-eqb _ _ e, q, fit-times v)
 
-    pub times-crate : r ≡ Crate → Fine ≡ check_of r (Spans Times) v
+    pub times-crate : r ≡ Crate → (Ok tt) ≡ check_of r (Spans Times) v
     unfolding check_of fitness crate_rule
     times-crate q = rw (eq-eqb _ _ e, q)
 
@@ -114,21 +111,21 @@ module _ (r : Reading) (v : List ℕ) where
     unfolding check_of standard_rule
     statistics-standard q = rw (eq-eqb _ _ e, q, fit-statistics v)
 
-    pub statistics-crate : r ≡ Crate → Unfit (OtherType (type_of v)) ≡ check_of r Statistics v
+    pub statistics-crate : r ≡ Crate → Err (OtherType (type_of v)) ≡ check_of r Statistics v
     unfolding check_of fitness crate_rule
     statistics-crate q = rw (e, q)
 
 module _ (r : Reading) (g : Ranged) (v : List ℕ) where
-  pub fields-shown : check_of r (Spans g) v ≡ Fine → is_cut r g (length v) ≡ false → Shown (fields_at v) ≡ fields_of r g v
+  pub fields-shown : check_of r (Spans g) v ≡ Ok tt → is_cut r g (length v) ≡ false → Ok (fields_at v) ≡ fields_of r g v
   unfolding fields_of
   fields-shown e k = rw (e, k)
 
-  pub fields-cut : check_of r (Spans g) v ≡ Fine → is_cut r g (length v) ≡ true
-      → NoneOf (NoFields (length v)) ≡ fields_of r g v
+  pub fields-cut : check_of r (Spans g) v ≡ Ok tt → is_cut r g (length v) ≡ true
+      → Err (NoFields (length v)) ≡ fields_of r g v
   unfolding fields_of
   fields-cut e k = rw (e, k)
 
-  pub fields-unfit : (x : Refusal) → check_of r (Spans g) v ≡ Unfit x → NoneOf x ≡ fields_of r g v
+  pub fields-unfit : (x : Refusal) → check_of r (Spans g) v ≡ Err x → Err x ≡ fields_of r g v
   unfolding fields_of
   fields-unfit x e = rw e
 
@@ -142,17 +139,17 @@ module _ (r : Reading) (g : Ranged) (left : ℕ) where
   pub cut-times : r ≡ Crate → g ≡ Times → ltb left 12 ≡ is_cut r g left
   cut-times e k = rw (e, k)
 
-pub time-shown : (r : Reading) (v : List ℕ) → check_of r Clock v ≡ Fine → Time (time_at v) ≡ time_of r v
+pub time-shown : (r : Reading) (v : List ℕ) → check_of r Clock v ≡ Ok tt → Ok (time_at v) ≡ time_of r v
 unfolding time_of
 time-shown r v e = rw e
 
-pub time-unfit : (r : Reading) (v : List ℕ) (x : Refusal) → check_of r Clock v ≡ Unfit x → NoTime x ≡ time_of r v
+pub time-unfit : (r : Reading) (v : List ℕ) (x : Refusal) → check_of r Clock v ≡ Err x → Err x ≡ time_of r v
 unfolding time_of
 time-unfit r v x e = rw e
 
 -- the same questions of a packet: where the block is located, and where it is not
 module _ (r : Reading) (s : List ℕ) (k : ℕ) where
-  module _ (at n : ℕ) (e : locate r s k ≡ At at n) where
+  module _ (at n : ℕ) (e : locate r s k ≡ Ok (at, n)) where
     pub fields-asked : (g : Ranged) → fields_of r g (part s at n) ≡ fields_asked r s k g
     unfolding fields_asked
     fields-asked g = rw e
@@ -161,11 +158,11 @@ module _ (r : Reading) (s : List ℕ) (k : ℕ) where
     unfolding time_asked
     time-asked = rw e
 
-  module _ (x : Refusal) (e : locate r s k ≡ Missing x) where
-    pub fields-missing : (g : Ranged) → NoneOf x ≡ fields_asked r s k g
+  module _ (x : Refusal) (e : locate r s k ≡ Err x) where
+    pub fields-missing : (g : Ranged) → Err x ≡ fields_asked r s k g
     unfolding fields_asked
     fields-missing g = rw e
 
-    pub time-missing : NoTime x ≡ time_asked r s k
+    pub time-missing : Err x ≡ time_asked r s k
     unfolding time_asked
     time-missing = rw e

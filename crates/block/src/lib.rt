@@ -10,20 +10,20 @@ ghost use Rattle.def_wire.specs.Block.{time_of};
 ghost use Rattle.def_questions.specs.Packets.{fields_asked, time_asked};
 ghost use Rattle.block.specs.Lengths.{length_check};
 
-use def_refusals::{Checked, Refusal};
-use def_wire::{Fields, FieldsOr, Kind, Located, LongTime, Ranged, Reading, Rle, TimeOr};
+use def_refusals::Refusal;
+use def_wire::{Fields, Kind, LongTime, Ranged, Reading, Rle};
 use records::{
     DelaySinceLastReceiverReport, PacketReceiptTimes, ReceiverReferenceTime, StatisticsSummary,
 };
 
 // A length rule: it holds, or 7.
-fn rule(ok: bool, expected: usize, actual: usize) -> Checked
+fn rule(ok: bool, expected: usize, actual: usize) -> Result<(), Refusal>
     ensures { result ≡ Rattle.def_wire.specs.Block.rule ok expected actual }
 {
     if ok {
-        return Checked::Fine;
+        return Ok(());
     }
-    Checked::Unfit(Refusal::BadBlockLength(expected, actual))
+    Err(Refusal::BadBlockLength(expected, actual))
 }
 
 // The type and the length L that a view's header bytes say.
@@ -40,15 +40,15 @@ fn length_of(v: &[u8]) -> usize
 }
 
 // 10, with the block's own type.
-fn other(t: u8) -> Checked
-    ensures { result ≡ Checked.Unfit (Refusal.OtherType t) }
+fn other(t: u8) -> Result<(), Refusal>
+    ensures { result ≡ Err (Refusal.OtherType t) }
 {
-    Checked::Unfit(Refusal::OtherType(t as usize))
+    Err(Refusal::OtherType(t as usize))
 }
 
 // In the standard reading: 10, then 7 by the length, of a block's view, asked as type 1 or 2. Its words are not looked
 // at: that is for a list, which goes over them anyway.
-pub fn check_length(a: Rle, v: &[u8]) -> Checked
+pub fn check_length(a: Rle, v: &[u8]) -> Result<(), Refusal>
     ensures { result ≡ length_check a v.now }
 {
     let t = type_of(v);
@@ -59,7 +59,7 @@ pub fn check_length(a: Rle, v: &[u8]) -> Checked
 }
 
 // 7, by the length and then by the words: one pass over them (word_scan).
-fn check_words(v: &[u8]) -> Checked
+fn check_words(v: &[u8]) -> Result<(), Refusal>
     ensures { result ≡ then_check (Rattle.def_wire.specs.Block.rule (leb 12 (length v.now)) 12 (length
         v.now)) (clear_rule (length v.now) (words_at v.now)) }
 {
@@ -72,7 +72,7 @@ fn check_words(v: &[u8]) -> Checked
 
 // 10, then 7, of a block's view, asked as type 1 or 2. In the standard reading this is a pass over the block's words,
 // for a run of ones of no length.
-pub fn check_chunks(r: Reading, a: Rle, v: &[u8]) -> Checked
+pub fn check_chunks(r: Reading, a: Rle, v: &[u8]) -> Result<(), Refusal>
     ensures { result ≡ check_of r (Kind.Spans (Ranged.Chunks a)) v.now }
 {
     let t = type_of(v);
@@ -89,7 +89,7 @@ pub fn check_chunks(r: Reading, a: Rle, v: &[u8]) -> Checked
 }
 
 // The same, asked as type 3.
-pub fn check_times(r: Reading, v: &[u8]) -> Checked
+pub fn check_times(r: Reading, v: &[u8]) -> Result<(), Refusal>
     ensures { result ≡ check_of r (Kind.Spans Ranged.Times) v.now }
 {
     let t = type_of(v);
@@ -98,12 +98,12 @@ pub fn check_times(r: Reading, v: &[u8]) -> Checked
     }
     match r {
         Reading::Standard => rule(12 <= v.len(), 12, v.len()),
-        Reading::Crate => Checked::Fine,
+        Reading::Crate => Ok(()),
     }
 }
 
 // As type 4.
-pub fn check_clock(r: Reading, v: &[u8]) -> Checked
+pub fn check_clock(r: Reading, v: &[u8]) -> Result<(), Refusal>
     ensures { result ≡ check_of r Kind.Clock v.now }
 {
     let t = type_of(v);
@@ -117,7 +117,7 @@ pub fn check_clock(r: Reading, v: &[u8]) -> Checked
 }
 
 // As type 5.
-pub fn check_echoes(r: Reading, v: &[u8]) -> Checked
+pub fn check_echoes(r: Reading, v: &[u8]) -> Result<(), Refusal>
     ensures { result ≡ check_of r Kind.Echoes v.now }
 {
     let t = type_of(v);
@@ -140,7 +140,7 @@ pub fn check_echoes(r: Reading, v: &[u8]) -> Checked
 }
 
 // As type 6, for which the crate has no question.
-pub fn check_statistics(r: Reading, v: &[u8]) -> Checked
+pub fn check_statistics(r: Reading, v: &[u8]) -> Result<(), Refusal>
     ensures { result ≡ check_of r Kind.Statistics v.now }
 {
     let t = type_of(v);
@@ -154,7 +154,7 @@ pub fn check_statistics(r: Reading, v: &[u8]) -> Checked
 }
 
 // The same, asked as a kind. Port of: XrBlock::parse_into.
-pub fn check(r: Reading, k: Kind, v: &[u8]) -> Checked
+pub fn check(r: Reading, k: Kind, v: &[u8]) -> Result<(), Refusal>
     ensures { result ≡ check_of r k v.now }
 {
     match k {
@@ -165,7 +165,7 @@ pub fn check(r: Reading, k: Kind, v: &[u8]) -> Checked
     }
 }
 
-fn check_range(r: Reading, g: Ranged, v: &[u8]) -> Checked
+fn check_range(r: Reading, g: Ranged, v: &[u8]) -> Result<(), Refusal>
     ensures { result ≡ check_of r (Kind.Spans g) v.now }
 {
     match g {
@@ -188,18 +188,14 @@ pub fn fields_at(v: &[u8]) -> Fields
 }
 
 // The fields of a block of type 1, 2 or 3, asked as one of these: 10, 7, 8.
-pub fn fields(r: Reading, g: Ranged, v: &[u8]) -> FieldsOr
+pub fn fields(r: Reading, g: Ranged, v: &[u8]) -> Result<Fields, Refusal>
     ensures { result ≡ fields_of r g v.now }
 {
-    match check_range(r, g, v) {
-        Checked::Fine => {
-            if is_cut(r, g, v.len()) {
-                return FieldsOr::NoneOf(Refusal::NoFields(v.len()));
-            }
-            FieldsOr::Shown(fields_at(v))
-        }
-        Checked::Unfit(x) => FieldsOr::NoneOf(x),
+    check_range(r, g, v)?;
+    if is_cut(r, g, v.len()) {
+        return Err(Refusal::NoFields(v.len()));
     }
+    Ok(fields_at(v))
 }
 
 // 8: the crate's fields of a type 3 block of which less than 12 bytes are left.
@@ -216,31 +212,25 @@ fn is_cut(r: Reading, g: Ranged, left: usize) -> bool
 }
 
 // The time of a block of type 4: 10, 7.
-pub fn time(r: Reading, v: &[u8]) -> TimeOr
+pub fn time(r: Reading, v: &[u8]) -> Result<LongTime, Refusal>
     ensures { result ≡ time_of r v.now }
 {
-    match check_clock(r, v) {
-        Checked::Fine => TimeOr::Time(LongTime(utils::u64_from_be_bytes(v, 4))),
-        Checked::Unfit(x) => TimeOr::NoTime(x),
-    }
+    check_clock(r, v)?;
+    Ok(LongTime(utils::u64_from_be_bytes(v, 4)))
 }
 
 // The fields of block k of a packet: 1 to 6, 9, 10, 7, 8.
-pub fn fields_in(r: Reading, s: &[u8], k: usize, g: Ranged) -> FieldsOr
+pub fn fields_in(r: Reading, s: &[u8], k: usize, g: Ranged) -> Result<Fields, Refusal>
     ensures { result ≡ fields_asked r s.now k g }
 {
-    match xr::locate(r, s, k) {
-        Located::At(at, n) => fields(r, g, utils::part(s, at, n)),
-        Located::Missing(x) => FieldsOr::NoneOf(x),
-    }
+    let (at, n) = xr::locate(r, s, k)?;
+    fields(r, g, utils::part(s, at, n))
 }
 
 // The time of block k of a packet: 1 to 6, 9, 10, 7.
-pub fn time_in(r: Reading, s: &[u8], k: usize) -> TimeOr
+pub fn time_in(r: Reading, s: &[u8], k: usize) -> Result<LongTime, Refusal>
     ensures { result ≡ time_asked r s.now k }
 {
-    match xr::locate(r, s, k) {
-        Located::At(at, n) => time(r, utils::part(s, at, n)),
-        Located::Missing(x) => TimeOr::NoTime(x),
-    }
+    let (at, n) = xr::locate(r, s, k)?;
+    time(r, utils::part(s, at, n))
 }

@@ -2,15 +2,15 @@
 --     kind-known               the kind, as it was found
 --     count-*                  how many events there are
 --     pairs-stepped            the pairs by a first number, a step and a count
+use Rattle.std.specs.Prelude.{Option, Some, None}
 use Rattle.std.proofs.Common.{◌≡◌, ℕ, ◌+◌, ◌-◌, ◌/◌, ◌<◌, ◌≤◌, min, List, [], ◌∷◌, map, length, take, drop, sym, refl, ap, ◌∙◌, arith, length-drop, take_all, le-leb}
 use lib.ListN.{length-map}
 use borrow.Author.Tests.{lt-leb}
+use Rattle.def_wire.specs.declared.Kind.{Kind}
 use Rattle.def_wire.specs.declared.Ranged.{Ranged}
 use Rattle.def_wire.specs.declared.Ranged.TheVariants.{Chunks, Times}
 use Rattle.def_wire.specs.declared.Rle.{Rle}
 use Rattle.def_wire.specs.declared.Kind.TheVariants.{Spans, Clock, Echoes, Statistics}
-use Rattle.def_wire.specs.declared.KindOr.{KindOr}
-use Rattle.def_wire.specs.declared.KindOr.TheVariants.{AKind, NoKind}
 use Rattle.def_wire.specs.declared.Fields.{Fields}
 use Rattle.def_wire.specs.Bytes.{words16, words32}
 use Rattle.def_wire.specs.Block.{type_of, fields_at, time_at, kind_of}
@@ -33,29 +33,29 @@ use Rattle.packet_receipt_time.proofs.PairsLaws.{pairs-standard, first-all, firs
 -- ---- by the kind
 
 module _ (v : List ℕ) where
-  pub kind-known : {t : ℕ} {r k : KindOr} → t ≡ type_of v → r ≡ kind_of t → r ≡ k → kind_of (type_of v) ≡ k
+  pub kind-known : {t : ℕ} {r k : Option Kind} → t ≡ type_of v → r ≡ kind_of t → r ≡ k → kind_of (type_of v) ≡ k
   kind-known e f g = ap kind_of (sym e) ∙ sym f ∙ g
 
-  pub events-spans : (g : Ranged) → kind_of (type_of v) ≡ AKind (Spans g)
+  pub events-spans : (g : Ranged) → kind_of (type_of v) ≡ Some (Spans g)
       → from 12 v (ranged_of v ∷ listed g v) ≡ block_events v
   unfolding kind_events
   events-spans g e = rw e
 
-  pub events-clock : kind_of (type_of v) ≡ AKind Clock
+  pub events-clock : kind_of (type_of v) ≡ Some Clock
       → start_of v ∷ from 12 v (Time (time_at v) ∷ []) ≡ block_events v
   unfolding kind_events
   events-clock e = rw e
 
-  pub events-echoes : kind_of (type_of v) ≡ AKind Echoes → start_of v ∷ map Entry (entries_of v) ≡ block_events v
+  pub events-echoes : kind_of (type_of v) ≡ Some Echoes → start_of v ∷ map Entry (entries_of v) ≡ block_events v
   unfolding kind_events
   events-echoes e = rw e
 
-  pub events-summary : kind_of (type_of v) ≡ AKind Statistics
+  pub events-summary : kind_of (type_of v) ≡ Some Statistics
       → start_of v ∷ from 40 v (Summed (summary_at v) ∷ []) ≡ block_events v
   unfolding kind_events
   events-summary e = rw e
 
-  pub events-none : kind_of (type_of v) ≡ NoKind → start_of v ∷ [] ≡ block_events v
+  pub events-none : kind_of (type_of v) ≡ None → start_of v ∷ [] ≡ block_events v
   unfolding kind_events
   events-none e = rw e
 

@@ -1,11 +1,10 @@
 -- A list of numbers that is filled into the part of a list from an index on. Assumes nothing.
+use Rattle.std.specs.Prelude.{Ok, Err}
 use Rattle.std.proofs.Common.{◌≡◌, ℕ, ◌+◌, ◌-◌, ◌≤◌, List, [], ◌++◌, length, take, drop, sym, ap, ◌∙◌, append_assoc, append-nil, arith, length-drop, take_all, drop-drop, le-leb}
 use lib.Seq.{sets, sets-eq, drop-length}
 use borrow.Rule.Slice.PartMut.{mid_of, post_of, put_mid}
 use Rattle.def_refusals.specs.declared.Refusal.{Refusal}
-use Rattle.def_refusals.specs.declared.Answer.{Answer}
-use Rattle.def_refusals.specs.declared.Answer.TheVariants.{Done, Refused}
-use Rattle.def_refusals.specs.Answers.{shown, answer_of, filled_of, Listed}
+use Rattle.def_refusals.specs.Answers.{answer_of, filled_of, Listed, Or}
 
 module _ (l xs : List ℕ) (n : ℕ) (room : n + length l ≤ length xs) where
   -- the part, and what is behind it
@@ -31,8 +30,8 @@ module _ (l xs : List ℕ) (n : ℕ) (room : n + length l ≤ length xs) where
   has_room : length l ≤ length mid
   has_room = omega (arith, ap length mid-is, length-drop n xs)
 
-  module _ {r : Answer} {ys : List ℕ} (f : Listed (shown l) mid r ys) where
-    pub answered : r ≡ Done (length l)
+  module _ {r : Or ℕ} {ys : List ℕ} (f : Listed (Ok l) mid r ys) where
+    pub answered : r ≡ Ok (length l)
     unfolding answer_of
     answered = f.answer ∙ (rw (le-leb _ _ has_room))
 
@@ -42,17 +41,17 @@ module _ (l xs : List ℕ) (n : ℕ) (room : n + length l ≤ length xs) where
         let e : ys ≡ l ++ drop (length l) mid = f.filled ∙ (rw (le-leb _ _ has_room)) in
         ap (put_mid n (length xs - n) xs) e ∙ put-mid
 
-abbrev count_in : Answer → ℕ
-count_in (Done m) = m
-count_in (Refused x) = 0
+abbrev count_in : Or ℕ → ℕ
+count_in (Ok m) = m
+count_in (Err x) = 0
 
-abbrev is_done : Answer → ℕ
-is_done (Done m) = 1
-is_done (Refused x) = 0
+abbrev is_done : Or ℕ → ℕ
+is_done (Ok m) = 1
+is_done (Err x) = 0
 
 -- as many as were listed
-pub done-as : {r : Answer} {m k : ℕ} → r ≡ Done k → r ≡ Done m → m ≡ k
+pub done-as : {r : Or ℕ} {m k : ℕ} → r ≡ Ok k → r ≡ Ok m → m ≡ k
 done-as e f = ap count_in (sym f ∙ e)
 
-pub not-refused : {P : Type 0} {r : Answer} {k : ℕ} {x : Refusal} → r ≡ Done k → r ≡ Refused x → P
+pub not-refused : {P : Type 0} {r : Or ℕ} {k : ℕ} {x : Refusal} → r ≡ Ok k → r ≡ Err x → P
 not-refused e f = let h : ◌≡◌ {A = ℕ} 1 0 = ap is_done (sym e ∙ f) in absurd (omega arith)

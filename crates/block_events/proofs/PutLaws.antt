@@ -1,13 +1,13 @@
 -- A block's events from what the calls stored that put them into lists. Assumes nothing.
 --     ranged-*     types 1 to 3: the start, and behind it the numbers or the pairs
 --     clock-*, echoes-*, summary-*, none-*     the other blocks
+use Rattle.std.specs.Prelude.{Some, None}
 use Rattle.std.proofs.Common.{◌≡◌, ℕ, ◌+◌, ◌<◌, ◌≤◌, List, [], ◌∷◌, map, length, refl, ap, ◌∙◌, arith}
 use Rattle.def_wire.specs.declared.Fields.{Fields}
 use Rattle.def_wire.specs.declared.Ranged.{Ranged}
 use Rattle.def_wire.specs.declared.Ranged.TheVariants.{Chunks, Times}
 use Rattle.def_wire.specs.declared.Rle.{Rle}
 use Rattle.def_wire.specs.declared.Kind.TheVariants.{Clock, Echoes, Statistics}
-use Rattle.def_wire.specs.declared.KindOr.TheVariants.{AKind, NoKind}
 use Rattle.def_wire.specs.declared.Summary.{Summary}
 use Rattle.def_wire.specs.Bytes.{be64}
 use Rattle.def_wire.specs.Block.{type_of, block_length, fields_at, time_at, kind_of}
@@ -62,7 +62,7 @@ module _ (v : List ℕ) where
 
   -- ---- type 4
 
-  module _ (k : kind_of (type_of v) ≡ AKind Clock) where
+  module _ (k : kind_of (type_of v) ≡ Some Clock) where
     pub clock-length : 1 ≤ length (block_events v)
     clock-length = rw (← events-clock v k) (omega arith)
 
@@ -81,7 +81,7 @@ module _ (v : List ℕ) where
 
   -- ---- type 5
 
-  module _ (k : kind_of (type_of v) ≡ AKind Echoes) where
+  module _ (k : kind_of (type_of v) ≡ Some Echoes) where
     pub echoes-length : 1 + length (entries_of v) ≡ length (block_events v)
     echoes-length = count-echoes v (length (entries_of v)) refl ∙ ap length (events-echoes v k)
 
@@ -93,7 +93,7 @@ module _ (v : List ℕ) where
 
   -- ---- type 6
 
-  module _ (k : kind_of (type_of v) ≡ AKind Statistics) where
+  module _ (k : kind_of (type_of v) ≡ Some Statistics) where
     pub summary-length : 1 ≤ length (block_events v)
     summary-length = rw (← events-summary v k) (omega arith)
 
@@ -111,5 +111,5 @@ module _ (v : List ℕ) where
 
   -- ---- any other type
 
-  pub none-length : kind_of (type_of v) ≡ NoKind → 1 ≤ length (block_events v)
+  pub none-length : kind_of (type_of v) ≡ None → 1 ≤ length (block_events v)
   none-length k = rw (← events-none v k) (omega arith)

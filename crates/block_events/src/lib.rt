@@ -14,9 +14,9 @@ ghost use Rattle.block_events.specs.Pairs.{PairsLaid};
 ghost use Rattle.packet_receipt_time.specs.Pairs.{stepped};
 
 use def_portions::Event;
-use def_refusals::{Answer, Checked, Refusal};
+use def_refusals::Refusal;
 use def_standard::Range;
-use def_wire::{Kind, KindOr, LongTime, Ranged, RleOr};
+use def_wire::{Kind, LongTime, Ranged};
 
 // A block's type, and its length by its header.
 fn type_of(v: &[u8]) -> u8
@@ -50,28 +50,28 @@ pub fn count_block(v: &[u8]) -> usize
     ensures { result ≡ length (block_events v.now) }
 {
     match records::kind_of(type_of(v)) {
-        KindOr::AKind(k) => match k {
+        Some(k) => match k {
             Kind::Spans(g) => count_range(g, v),
             Kind::Clock => { if v.len() < 12 { 1 } else { 2 } }
             Kind::Echoes => 1 + dlrr::count(v),
             Kind::Statistics => { if v.len() < 40 { 1 } else { 2 } }
         },
-        KindOr::NoKind => 1,
+        None => 1,
     }
 }
 
 // 7, where a run of no length is among the words of a block of type 1 or 2, of its bytes so far.
-pub fn lost_fault(v: &[u8]) -> Checked
+pub fn lost_fault(v: &[u8]) -> Result<(), Refusal>
     ensures { result ≡ lost_fault (kind_of (type_of v.now)) v.now }
 {
     match records::rle_of(type_of(v)) {
-        RleOr::AnRle(_) => {
+        Some(_) => {
             if word_scan::has_lost_run(utils::part(v, 12, v.len())) {
-                return Checked::Unfit(Refusal::BadBlockLength(12, length_of(v) as usize));
+                return Err(Refusal::BadBlockLength(12, length_of(v) as usize));
             }
-            Checked::Fine
+            Ok(())
         }
-        RleOr::NoRle => Checked::Fine,
+        None => Ok(()),
     }
 }
 
@@ -86,11 +86,11 @@ fn put_numbers(words: &[u8], r: Range, tags: &mut [u64], numbers: &mut [u16], n:
     ensures value { result ≡ n + length (numbers_of r (words16 words.now)) }
 {
     match rle_standard::fill_standard(words, r, &mut numbers[n..]) {
-        Answer::Done(m) => {
+        Ok(m) => {
             event_lists::put_tags(tags, n, n + m);
             n + m
         }
-        Answer::Refused(_) => n,
+        Err(_) => n,
     }
 }
 
@@ -213,7 +213,7 @@ pub fn put_block(
 {
     let t = type_of(v);
     match records::kind_of(t) {
-        KindOr::AKind(k) => match k {
+        Some(k) => match k {
             Kind::Spans(g) => put_range(g, v, tags, numbers, values, sums, n),
             Kind::Clock => {
                 let m = event_lists::put(
@@ -263,7 +263,7 @@ pub fn put_block(
                 )
             }
         },
-        KindOr::NoKind => event_lists::put(
+        None => event_lists::put(
             tags,
             numbers,
             values,

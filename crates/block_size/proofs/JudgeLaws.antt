@@ -1,37 +1,27 @@
 -- When a record asks for a block and is good, with the tests that lead there as premises. Assumes nothing.
---     fields-short, ..     the tests of `has_fields` in turn
---     fields-are           what it says of a body
+--     fields-are           what `has_fields` says of a body
 --     words-short, ..      the tests of a body of words in turn
 --     sums-other, ..       the tests of a summary's body in turn
 --     good-words           what they say of it
 --     block-as             `is_block_job` by the record's kind
-use Prim.Native.Nat.{ℕ, ◌-◌, ◌%◌, ◌≤◌, ◌<◌}
+use Rattle.std.specs.Prelude.{Option}
+use Prim.Native.Nat.{ℕ}
 use mathlib.Core.Path.{◌≡◌, ap, ◌∙◌}
 use mathlib.Core.Bool.{Bool, true, false, not}
 use mathlib.Core.List.{List}
 use native.Mathlib.Omega.{arith}
 use lib.ListN.{length, take, drop, length-drop}
 use lib.Seq.{take_all}
-use lib.Dec.{leb, eqb}
-use borrow.Author.Tests.{le-leb, lt-leb, leb-true, eqb-true, eq-eqb, ne_eqb}
+use lib.Dec.{leb}
+use borrow.Author.Tests.{leb-true, eqb-true, eq-eqb, ne_eqb}
+use Rattle.def_wire.specs.declared.Kind.{Kind}
 use Rattle.laws.proofs.Tests.{and-true}
-use Rattle.def_wire.specs.declared.KindOr.{KindOr}
 use Rattle.def_wire.specs.Block.{lost_run, has, kind_of}
 use Rattle.def_wire.specs.Bytes.{byte_at}
 use Rattle.def_jobs.specs.Jobs.{Job, le16, low16, job_flags, has_fields, is_flags, has_sums, is_body, is_block_job}
 use Rattle.block_size.specs.Judged.{Fielded, has_words}
 
 module _ (j : Job) where
-  pub fields-short : (bytes : ℕ) → length j.body < 10 → false ≡ has_fields j bytes
-  fields-short bytes h = rw (lt-leb _ _ h)
-
-  module _ (bytes : ℕ) (h : 10 ≤ length j.body) (n : ℕ) (t : n ≡ le16 j.body 8) where
-    pub fields_thin : 15 < n → false ≡ has_fields j bytes
-    fields_thin k = rw (le-leb _ _ h, ← t, lt-leb _ _ k)
-
-    pub fields-whole : n ≤ 15 → eqb ((length j.body - 10) % bytes) 0 ≡ has_fields j bytes
-    fields-whole k = rw (le-leb _ _ h, ← t, le-leb _ _ k)
-
   pub fields-are : (bytes : ℕ) → has_fields j bytes ≡ true → Fielded j.body bytes
   fields-are bytes e =
       let p = and-true (leb 10 (length j.body)) _ e in
@@ -60,6 +50,6 @@ module _ (j : Job) where
   pub good-words : has_words j ≡ true → Fielded j.body 2
   good-words e = fields-are 2 (and-true (has_fields j 2) _ e).0
 
-  pub block-as : {k : KindOr} → kind_of j.kind ≡ k → is_block_job j ≡ is_body k j
+  pub block-as : {k : Option Kind} → kind_of j.kind ≡ k → is_block_job j ≡ is_body k j
   unfolding is_block_job
-  block-as e = ap (λ (k : KindOr). is_body k j) e
+  block-as e = ap (λ (k : Option Kind). is_body k j) e

@@ -9,7 +9,7 @@ ghost use Rattle.jobs.specs.Places.{job_of};
 ghost use Rattle.block_size.specs.Judged.{judged_size, has_words};
 
 use def_jobs::Layout;
-use def_wire::{Kind, KindOr, Ranged};
+use def_wire::{Kind, Ranged};
 
 // Fields, a thinning of at most 15, and behind them whole items of so many bytes; the kind makes no difference.
 fn has_fields(body: &[u8], bytes: usize) -> bool
@@ -85,7 +85,7 @@ pub fn block_size(layout: Layout, kind: u16, body: &[u8]) -> usize
     ensures { result ≡ length (block_bytes layout (job_of kind body.now)) }
 {
     match jobs::kind_of(kind) {
-        KindOr::AKind(k) => match k {
+        Some(k) => match k {
             Kind::Spans(g) => match g {
                 Ranged::Chunks(_) => {
                     12 + utils::above(body.len(), 10) / 2 * 2 + zeros_behind(layout, body) * 2
@@ -96,7 +96,7 @@ pub fn block_size(layout: Layout, kind: u16, body: &[u8]) -> usize
             Kind::Echoes => 4 + body.len() / 4 * 4,
             Kind::Statistics => 40,
         },
-        KindOr::NoKind => 0,
+        None => 0,
     }
 }
 
@@ -105,7 +105,7 @@ pub fn judged_size(layout: Layout, kind: u16, body: &[u8]) -> usize
     ensures { result ≡ judged_size layout (job_of kind body.now) }
 {
     match jobs::kind_of(kind) {
-        KindOr::AKind(k) => match k {
+        Some(k) => match k {
             Kind::Spans(g) => match g {
                 Ranged::Chunks(_) => {
                     if has_words(body) {
@@ -132,7 +132,7 @@ pub fn judged_size(layout: Layout, kind: u16, body: &[u8]) -> usize
             }
             Kind::Statistics => { if has_sums(body) { 40 } else { 0 } }
         },
-        KindOr::NoKind => 0,
+        None => 0,
     }
 }
 

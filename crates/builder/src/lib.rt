@@ -13,7 +13,7 @@ ghost use Rattle.builder.specs.Blocks.{fields_in, fields_bytes, words_block, tim
 ghost use Rattle.builder.specs.Blocks.{echoes_block, counts_bytes, hops_bytes, sums_block};
 
 use def_jobs::Layout;
-use def_wire::{Kind, KindOr, Ranged, Rle};
+use def_wire::{Kind, Ranged, Rle};
 use records::{
     DelaySinceLastReceiverReport, PacketReceiptTimes, ReceiverReferenceTime, StatisticsSummary,
 };
@@ -174,7 +174,7 @@ pub fn write_block(layout: Layout, kind: u16, body: &[u8], out: &mut [u8], at: u
         out.new result }
 {
     match jobs::kind_of(kind) {
-        KindOr::AKind(k) => match k {
+        Some(k) => match k {
             Kind::Spans(g) => match g {
                 Ranged::Chunks(a) => write_words(layout, a, body, out, at),
                 Ranged::Times => write_times(body, out, at),
@@ -183,6 +183,6 @@ pub fn write_block(layout: Layout, kind: u16, body: &[u8], out: &mut [u8], at: u
             Kind::Echoes => write_echoes(body, out, at),
             Kind::Statistics => write_sums(body, out, at),
         },
-        KindOr::NoKind => at,
+        None => at,
     }
 }

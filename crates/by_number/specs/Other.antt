@@ -1,9 +1,9 @@
 -- Why a question that a block's type does not serve is refused: as its view is, or 10 with its own type (private).
-use Rattle.std.specs.Prelude.{ℕ, List}
+use Rattle.std.specs.Prelude.{ℕ, List, Ok, Err}
 use Rattle.def_refusals.specs.declared.Refusal.{Refusal}
-use Rattle.def_refusals.specs.Answers.{Or, shown, refused}
+use Rattle.def_refusals.specs.Answers.{Or}
 use Rattle.def_questions.specs.ByNumber.{not_served}
 
 abbrev pub other_of : Or (List ℕ) → Refusal
-other_of (shown v) = not_served v
-other_of (refused x) = x
+other_of (Ok v) = not_served v
+other_of (Err x) = x

@@ -4,7 +4,7 @@
 #![tactic(auto)]
 
 ghost use Rattle.std.specs.Prelude.{◌≡◌, length};
-ghost use Rattle.def_refusals.specs.Answers.{Listed, refused};
+ghost use Rattle.def_refusals.specs.Answers.{Listed};
 ghost use Rattle.def_wire.specs.Packet.{view_of};
 ghost use Rattle.def_wire.specs.Block.{rle_of, ranged_of, fields_of};
 ghost use Rattle.def_questions.specs.Questions.{words_shown};
@@ -13,73 +13,80 @@ ghost use Rattle.def_questions.specs.ByNumber.{on_rle, on_ranged, not_served};
 ghost use Rattle.def_cursor.specs.Cursor.{StretchedBy, advance_by, filled_by};
 ghost use Rattle.by_number.specs.Other.{other_of};
 
-use def_cursor::{Advanced, Cursor};
-use def_refusals::{Answer, Refusal};
-use def_wire::{FieldsOr, Located, RangedOr, Reading, RleOr};
+use def_cursor::{Cursor, Stretch};
+use def_refusals::Refusal;
+use def_wire::{Fields, Reading};
 
 // Why a question that a block's type does not serve is refused: 1 to 6, 9, 10.
 fn other(r: Reading, s: &[u8], k: usize) -> Refusal
     ensures { result ≡ other_of (view_of r s.now k) }
 {
     match xr::locate(r, s, k) {
-        Located::At(at, n) => {
+        Ok((at, n)) => {
             let h = xr::header_data(utils::part(s, at, n));
             Refusal::OtherType(xr::block_type(h) as usize)
         }
-        Located::Missing(x) => x,
+        Err(x) => x,
     }
 }
 
 // Block k's fields, asked by a number: 1 to 6, 9, 10, 7, 8.
-pub fn fields(r: Reading, s: &[u8], k: usize, t: u8) -> FieldsOr
+pub fn fields(r: Reading, s: &[u8], k: usize, t: u8) -> Result<Fields, Refusal>
     ensures { result ≡ fields_by r s.now k t }
 {
     match records::ranged_of(t) {
-        RangedOr::ARange(g) => block::fields_in(r, s, k, g),
-        RangedOr::NoRange => FieldsOr::NoneOf(other(r, s, k)),
+        Some(g) => block::fields_in(r, s, k, g),
+        None => Err(other(r, s, k)),
     }
 }
 
 // Block k's numbers, asked by a number: 1 to 6, 9, 10, 7, 11.
-pub fn numbers(r: Reading, s: &[u8], k: usize, t: u8, out: &mut [u16]) -> Answer
+pub fn numbers(r: Reading, s: &[u8], k: usize, t: u8, out: &mut [u16]) -> Result<usize, Refusal>
     ensures { Listed (numbers_by r s.now k t) out.old result out.new }
 {
     match records::rle_of(t) {
-        RleOr::AnRle(a) => numbers::numbers_in(r, s, k, a, out),
-        RleOr::NoRle => Answer::Refused(other(r, s, k)),
+        Some(a) => numbers::numbers_in(r, s, k, a, out),
+        None => Err(other(r, s, k)),
     }
 }
 
 // The numbers of a block's view, asked by a number: 10, 7, 11.
-pub fn numbers_view(r: Reading, t: u8, v: &[u8], out: &mut [u16]) -> Answer
+pub fn numbers_view(r: Reading, t: u8, v: &[u8], out: &mut [u16]) -> Result<usize, Refusal>
     ensures { Listed (numbers_view_by r t v.now) out.old result out.new }
 {
     match records::rle_of(t) {
-        RleOr::AnRle(a) => numbers::numbers(r, a, v, out),
-        RleOr::NoRle => {
+        Some(a) => numbers::numbers(r, a, v, out),
+        None => {
             let h = xr::header_data(v);
-            Answer::Refused(Refusal::OtherType(xr::block_type(h) as usize))
+            Err(Refusal::OtherType(xr::block_type(h) as usize))
         }
     }
 }
 
 // Block k's chunk words, asked by a number: 1 to 6, 9, 10, 7, 11.
-pub fn words(r: Reading, s: &[u8], k: usize, t: u8, out: &mut [u16]) -> Answer
+pub fn words(r: Reading, s: &[u8], k: usize, t: u8, out: &mut [u16]) -> Result<usize, Refusal>
     ensures { Listed (words_by r s.now k t) out.old result out.new }
 {
     match records::rle_of(t) {
-        RleOr::AnRle(a) => numbers::words_in(r, s, k, a, out),
-        RleOr::NoRle => Answer::Refused(other(r, s, k)),
+        Some(a) => numbers::words_in(r, s, k, a, out),
+        None => Err(other(r, s, k)),
     }
 }
 
 // At most budget steps of the number cursor in block k, asked by a number: 1 to 6, 9, 10, 7, 16, 11.
-pub fn advance(s: &[u8], k: usize, t: u8, c: Cursor, budget: usize, out: &mut [u16]) -> Advanced
+pub fn advance(
+    s: &[u8],
+    k: usize,
+    t: u8,
+    c: Cursor,
+    budget: usize,
+    out: &mut [u16],
+) -> Result<Stretch, Refusal>
     ensures { StretchedBy s.now k t c budget out.old result out.new }
 {
     match records::rle_of(t) {
-        RleOr::AnRle(a) => cursor::advance_in(s, k, a, c, budget, out),
-        RleOr::NoRle => Advanced::Stuck(other(Reading::Standard, s, k)),
+        Some(a) => cursor::advance_in(s, k, a, c, budget, out),
+        None => Err(other(Reading::Standard, s, k)),
     }
 }
 
@@ -92,34 +99,40 @@ fn unserved(v: &[u8]) -> Refusal
 }
 
 // The fields of a block's view, asked by a number: 10, 7, 8.
-pub fn fields_view(r: Reading, t: u8, v: &[u8]) -> FieldsOr
+pub fn fields_view(r: Reading, t: u8, v: &[u8]) -> Result<Fields, Refusal>
     ensures { result ≡ on_ranged (ranged_of t) (λ g. fields_of r g v.now)
-        (FieldsOr.NoneOf (not_served v.now)) }
+        (Err (not_served v.now)) }
 {
     match records::ranged_of(t) {
-        RangedOr::ARange(g) => block::fields(r, g, v),
-        RangedOr::NoRange => FieldsOr::NoneOf(unserved(v)),
+        Some(g) => block::fields(r, g, v),
+        None => Err(unserved(v)),
     }
 }
 
 // The chunk words of a block's view, asked by a number: 10, 7, 11.
-pub fn words_view(r: Reading, t: u8, v: &[u8], out: &mut [u16]) -> Answer
+pub fn words_view(r: Reading, t: u8, v: &[u8], out: &mut [u16]) -> Result<usize, Refusal>
     ensures { Listed (on_rle (rle_of t) (λ a. words_shown r a v.now)
-        (refused (not_served v.now))) out.old result out.new }
+        (Err (not_served v.now))) out.old result out.new }
 {
     match records::rle_of(t) {
-        RleOr::AnRle(a) => numbers::words(r, a, v, out),
-        RleOr::NoRle => Answer::Refused(unserved(v)),
+        Some(a) => numbers::words(r, a, v, out),
+        None => Err(unserved(v)),
     }
 }
 
 // At most budget steps of the number cursor in a block's view, asked by a number: 10, 7, 16, 11.
-pub fn advance_view(t: u8, v: &[u8], c: Cursor, budget: usize, out: &mut [u16]) -> Advanced
+pub fn advance_view(
+    t: u8,
+    v: &[u8],
+    c: Cursor,
+    budget: usize,
+    out: &mut [u16],
+) -> Result<Stretch, Refusal>
     ensures { (result ≡ advance_by t v.now c budget (length out.old))
         × (out.new ≡ filled_by t v.now c budget out.old) }
 {
     match records::rle_of(t) {
-        RleOr::AnRle(a) => cursor::advance(a, v, c, budget, out),
-        RleOr::NoRle => Advanced::Stuck(unserved(v)),
+        Some(a) => cursor::advance(a, v, c, budget, out),
+        None => Err(unserved(v)),
     }
 }

@@ -3,6 +3,7 @@
 --     covers-*, value-*       how many positions a word covers, and the value at a place, by its kind
 --     values-*                the values at its places, in order
 --     chunk-*, word-*         its kind, and the word of a kind
+use Rattle.std.specs.Prelude.{Ok, Err}
 use Prim.Native.Nat.{ℕ, zero, suc, ◌+◌, ◌-◌, ◌/◌, ◌%◌, ◌^◌, ◌≤◌, ◌<◌, min}
 use mathlib.Core.Path.{◌≡◌, refl, ap, ◌∙◌}
 use mathlib.Core.List.{List, [], ◌∷◌, ◌++◌, map}
@@ -14,7 +15,6 @@ use borrow.Author.Tests.{lt-ltb, le-ltb, le-leb, lt-leb, eq-eqb, ne_eqb}
 use Rattle.laws.proofs.Tests.{both}
 use Rattle.def_refusals.specs.declared.Refusal.TheVariants.{ValueTooLarge}
 use Rattle.def_standard.specs.declared.Chunk.TheVariants.{Null, Skip, Run, Vector}
-use Rattle.def_standard.specs.declared.MadeWord.TheVariants.{Word, Unmade}
 use Rattle.def_standard.specs.Chunks.{covers_of, value_of, count_from, values_in, chunk_of, within, word_of}
 
 -- ---- by its kind
@@ -128,44 +128,44 @@ module _ (w : ℕ) where
 
 -- ---- the word of a kind
 
-within-fits : (v limit w : ℕ) → v ≤ limit → within v limit w ≡ Word w
+within-fits : (v limit w : ℕ) → v ≤ limit → within v limit w ≡ Ok w
 within-fits v limit w h = rw (le-leb v limit h)
 
-within-over : (v limit w : ℕ) → limit < v → within v limit w ≡ Unmade (ValueTooLarge v)
+within-over : (v limit w : ℕ) → limit < v → within v limit w ≡ Err (ValueTooLarge v)
 within-over v limit w h = rw (lt-leb v limit h)
 
 module _ (v : ℕ) where
-  pub word-skip : v ≤ 16383 → word_of (Skip v) ≡ Word v
+  pub word-skip : v ≤ 16383 → word_of (Skip v) ≡ Ok v
   unfolding word_of
   word-skip = within-fits v 16383 v
 
-  pub word-run-none : v ≡ 0 → word_of (Run v) ≡ Unmade (ValueTooLarge 0)
+  pub word-run-none : v ≡ 0 → word_of (Run v) ≡ Err (ValueTooLarge 0)
   unfolding word_of
   word-run-none e = rw (eq-eqb v 0 e)
 
-  pub word-run : (v ≡ 0 → ⊥) → v ≤ 16383 → word_of (Run v) ≡ Word (16384 + v)
+  pub word-run : (v ≡ 0 → ⊥) → v ≤ 16383 → word_of (Run v) ≡ Ok (16384 + v)
   unfolding word_of
   word-run n h = rw (ne_eqb v 0 n) (within-fits v 16383 (16384 + v) h)
 
-  pub word-vector : v ≤ 32767 → word_of (Vector v) ≡ Word (32768 + v)
+  pub word-vector : v ≤ 32767 → word_of (Vector v) ≡ Ok (32768 + v)
   unfolding word_of
   word-vector = within-fits v 32767 (32768 + v)
 
   -- 13
-  pub word-skip-over : 16383 < v → word_of (Skip v) ≡ Unmade (ValueTooLarge v)
+  pub word-skip-over : 16383 < v → word_of (Skip v) ≡ Err (ValueTooLarge v)
   unfolding word_of
   word-skip-over = within-over v 16383 v
 
-  pub word-run-over : 16383 < v → word_of (Run v) ≡ Unmade (ValueTooLarge v)
+  pub word-run-over : 16383 < v → word_of (Run v) ≡ Err (ValueTooLarge v)
   unfolding word_of
   word-run-over h =
       let n : v ≡ 0 → ⊥ = λ (e : v ≡ 0). absurd (omega arith) in
       rw (ne_eqb v 0 n) (within-over v 16383 (16384 + v) h)
 
-  pub word-vector-over : 32767 < v → word_of (Vector v) ≡ Unmade (ValueTooLarge v)
+  pub word-vector-over : 32767 < v → word_of (Vector v) ≡ Err (ValueTooLarge v)
   unfolding word_of
   word-vector-over = within-over v 32767 (32768 + v)
 
-pub word-null : word_of Null ≡ Word 0
+pub word-null : word_of Null ≡ Ok 0
 unfolding word_of
 word-null = refl

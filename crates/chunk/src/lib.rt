@@ -7,8 +7,8 @@ ghost use Rattle.def_refusals.specs.Answers.{Listed};
 ghost use Rattle.def_standard.specs.Chunks.{covers_of, value_of, chunk_of, word_of, word_bytes};
 ghost use Rattle.chunk.specs.Ones.{ones_before};
 
-use def_refusals::{Answer, Refusal};
-use def_standard::{Chunk, MadeWord};
+use def_refusals::Refusal;
+use def_standard::Chunk;
 
 // 1 where the word is a bit vector, else 0. Port of: rle.rs RleChunk::parse, as the next three.
 pub fn kind_bit(w: u16) -> u16
@@ -73,9 +73,9 @@ pub fn ones_before(w: u16, room: usize) -> usize
         if run_bit(w) == 0 {
             return 0;
         }
-        return utils::lesser(room, run_length(w) as usize);
+        return room.min(run_length(w) as usize);
     }
-    let unasked = 15 - utils::lesser(room, 15);
+    let unasked = 15 - room.min(15);
     u32::count_ones((vector_bits(w) as u32) >> unasked) as usize
 }
 
@@ -113,33 +113,33 @@ fn vector_word(v: u16) -> u16
 
 // The word of a kind, or 13 (RULES, "Refusal numbers"). Port of: rle.rs RleChunk::write_into; differs: refuses where
 // the Rust masks, and a run of ones of no length, which the Rust writes.
-pub fn word_of(c: Chunk) -> MadeWord
+pub fn word_of(c: Chunk) -> Result<u16, Refusal>
     ensures { result ≡ word_of c }
 {
     match c {
-        Chunk::Null => MadeWord::Word(0),
+        Chunk::Null => Ok(0),
         Chunk::Skip(n) => {
             if n <= 0x3fff {
-                MadeWord::Word(n as u16)
+                Ok(n as u16)
             } else {
-                MadeWord::Unmade(Refusal::ValueTooLarge(n as usize))
+                Err(Refusal::ValueTooLarge(n as usize))
             }
         }
         Chunk::Run(n) => {
             if n == 0 {
-                return MadeWord::Unmade(Refusal::ValueTooLarge(0));
+                return Err(Refusal::ValueTooLarge(0));
             }
             if n <= 0x3fff {
-                MadeWord::Word(run_word(n as u16))
+                Ok(run_word(n as u16))
             } else {
-                MadeWord::Unmade(Refusal::ValueTooLarge(n as usize))
+                Err(Refusal::ValueTooLarge(n as usize))
             }
         }
         Chunk::Vector(v) => {
             if v <= 0x7fff {
-                MadeWord::Word(vector_word(v as u16))
+                Ok(vector_word(v as u16))
             } else {
-                MadeWord::Unmade(Refusal::ValueTooLarge(v as usize))
+                Err(Refusal::ValueTooLarge(v as usize))
             }
         }
     }
@@ -147,19 +147,13 @@ pub fn word_of(c: Chunk) -> MadeWord
 
 // Makes one chunk word in the bytes lent, 13 before 11 (RULES, "Refusal numbers"). Port of: rle.rs
 // RleChunk::write_into; differs: 13 where the Rust masks, 11 where it panics.
-pub fn write_chunk(c: Chunk, out: &mut [u8]) -> Answer
+pub fn write_chunk(c: Chunk, out: &mut [u8]) -> Result<usize, Refusal>
     ensures { Listed (word_bytes c) out.old result out.new }
 {
-    let made = word_of(c);
-    match made {
-        MadeWord::Unmade(x) => Answer::Refused(x),
-        MadeWord::Word(w) => {
-            if 2 <= out.len() {
-                utils::put16(out, 0, w);
-                Answer::Done(2)
-            } else {
-                Answer::Refused(Refusal::NoRoom(2, out.len()))
-            }
-        }
+    let word = word_of(c)?;
+    if out.len() < 2 {
+        return Err(Refusal::NoRoom(2, out.len()));
     }
+    utils::put16(out, 0, word);
+    Ok(2)
 }

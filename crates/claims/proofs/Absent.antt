@@ -1,14 +1,13 @@
 -- A summary's numbers whose flags are clear are written, and read back as absent. Assumes nothing.
 --     summary-read, clear-flags     the claims
+use Rattle.std.specs.Prelude.{Ok, Some}
 use Prim.Native.Nat.{ℕ, ◌+◌}
 use mathlib.Core.Path.{◌≡◌, refl}
 use mathlib.Core.List.{List}
 use lib.ListN.{take}
 use Rattle.def_wire.specs.declared.Reading.TheVariants.{Standard}
 use Rattle.def_wire.specs.declared.Kind.TheVariants.{Statistics}
-use Rattle.def_wire.specs.declared.KindOr.TheVariants.{AKind}
 use Rattle.def_wire.specs.declared.Sums.{Sums}
-use Rattle.def_wire.specs.declared.SummaryOr.TheVariants.{Stated}
 use Rattle.def_wire.specs.Packet.{header_of, place_of, walk_from, count_of, locate}
 use Rattle.def_wire.specs.Block.{rle_of, ranged_of, kind_of, standard_rule, fitness, check_of}
 use Rattle.def_wire.specs.Summary.{summary_from, summary_of}
@@ -40,8 +39,8 @@ by_flags flags n =
     }
 
 -- what a record of kind 6 asks
-asks : (s : List ℕ) (k : ℕ) (j : Job) → kind_of j.kind ≡ AKind Statistics → Answered Standard s k (asked_of j)
-    → summary_asked Standard s k ≡ Stated (summary_from (job_flags j) (job_sums j))
+asks : (s : List ℕ) (k : ℕ) (j : Job) → kind_of j.kind ≡ Some Statistics → Answered Standard s k (asked_of j)
+    → summary_asked Standard s k ≡ Ok (summary_from (job_flags j) (job_sums j))
 unfolding asked_of
 asks s k j e a = rw e at a
 

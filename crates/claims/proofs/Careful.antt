@@ -1,5 +1,6 @@
 -- A carefully written packet misleads no reader that keeps the old reading. Assumes nothing.
 --     not-misled, fifteen, unread     the claims
+use Rattle.std.specs.Prelude.{Ok, Err}
 use Prim.Native.Nat.{ℕ, zero, suc, ◌+◌, ◌*◌, ◌≤◌, ◌<◌}
 use mathlib.Core.Path.{◌≡◌, refl, sym, ap, subst, ◌∙◌}
 use mathlib.Core.Bool.{true, false}
@@ -11,10 +12,7 @@ use borrow.Author.Tests.{le-ltb, ltb-true, ltb-false, eqb-true, eqb-false}
 use Rattle.laws.proofs.Tests.{either, by-test, true≢false}
 use Rattle.def_refusals.specs.declared.Refusal.{Refusal}
 use Rattle.def_refusals.specs.declared.Refusal.TheVariants.{TooShort, BlockTooLong, NoBlock, Misleads}
-use Rattle.def_refusals.specs.declared.Answer.TheVariants.{Done, Refused}
-use Rattle.def_refusals.specs.declared.Checked.{Checked}
-use Rattle.def_refusals.specs.declared.Checked.TheVariants.{Fine, Unfit}
-use Rattle.def_refusals.specs.Answers.{shown, refused, on_fine}
+use Rattle.def_refusals.specs.Answers.{on_fine, Or}
 use Rattle.def_wire.specs.declared.Reading.TheVariants.{Crate}
 use Rattle.def_wire.specs.Packet.{count_of, locate, view_of}
 use Rattle.def_questions.specs.Packets.{fields_asked, numbers_asked, pairs_asked, entries_asked, time_asked, summary_asked}
@@ -38,7 +36,7 @@ use Rattle.claims.proofs.AsStandard.{Both, as-standard, as-shown, no-misleading}
 
 -- ---- a block that the crate refuses
 
-module _ (s : List ℕ) (k : ℕ) (x : Refusal) (e : view_of Crate s k ≡ refused x) where
+module _ (s : List ℕ) (k : ℕ) (x : Refusal) (e : view_of Crate s k ≡ Err x) where
   unseen : AsStandard s k
   unfolding fields_asked numbers_asked pairs_asked time_asked entries_asked summary_asked
   unseen =
@@ -57,18 +55,18 @@ module _ (s : List ℕ) (k : ℕ) (x : Refusal) (e : view_of Crate s k ≡ refus
   unseen-misleads : misleads s k ≡ false
   unseen-misleads = rw e
 
-view-refused : (s : List ℕ) (k : ℕ) (x : Refusal) → count_of Crate s ≡ Refused x → view_of Crate s k ≡ refused x
+view-refused : (s : List ℕ) (k : ℕ) (x : Refusal) → count_of Crate s ≡ Err x → view_of Crate s k ≡ Err x
 unfolding locate
 view-refused s k x e = rw e
 
-view-beyond : (s : List ℕ) (k n : ℕ) → count_of Crate s ≡ Done n → n ≤ k → view_of Crate s k ≡ refused (NoBlock n)
+view-beyond : (s : List ℕ) (k n : ℕ) → count_of Crate s ≡ Ok n → n ≤ k → view_of Crate s k ≡ Err (NoBlock n)
 unfolding locate
 view-beyond s k n e h = rw (e, le-ltb _ _ h)
 
 -- ---- the first block that misleads
 
 module _ (s : List ℕ) where
-  none-misleads : (n k : ℕ) → misleading_from s k n ≡ Fine → (i : ℕ) → k ≤ i → i < k + n → misleads s i ≡ false
+  none-misleads : (n k : ℕ) → misleading_from s k n ≡ Ok tt → (i : ℕ) → k ≤ i → i < k + n → misleads s i ≡ false
   unfolding misleading_from
   none-misleads zero k e i a b = absurd (omega arith)
   none-misleads (suc n) k e i a b =
@@ -77,7 +75,7 @@ module _ (s : List ℕ) where
       either (eqb i k) (λ t. ap (misleads s) (eqb-true _ _ t) ∙ f)
       (λ t. let u : i ≡ k → ⊥ = eqb-false _ _ t in none-misleads n (suc k) d i (omega (arith, u)) (omega arith))) e
 
-  first-misleads : (n k m : ℕ) → misleading_from s k n ≡ Unfit (Misleads m)
+  first-misleads : (n k m : ℕ) → misleading_from s k n ≡ Err (Misleads m)
       → (misleads s m ≡ true) × ((i : ℕ) → k ≤ i → i < m → misleads s i ≡ false)
   unfolding misleading_from
   first-misleads zero k m e = absurd (let z : ◌≡◌ {A = ℕ} 0 1 = cc in omega arith)
@@ -91,7 +89,7 @@ module _ (s : List ℕ) where
       )) e
 
   misleads-first : (n k m : ℕ) → k ≤ m → m < k + n → misleads s m ≡ true
-      → ((i : ℕ) → k ≤ i → i < m → misleads s i ≡ false) → misleading_from s k n ≡ Unfit (Misleads m)
+      → ((i : ℕ) → k ≤ i → i < m → misleads s i ≡ false) → misleading_from s k n ≡ Err (Misleads m)
   unfolding misleading_from
   misleads-first zero k m a b t f = absurd (omega arith)
   misleads-first (suc n) k m a b t f =
@@ -132,14 +130,14 @@ view-none h [] s w bh b z k l = TooShort 12 8
 view-none h (j ∷ js) s w bh b z k l = NoBlock (length (j ∷ js))
 
 view-beneath : (h : Job) (js : List Job) (s : List ℕ) (w : Fit Careful h js s) (bh : Body h) (b : Each Body js)
-    (z : asked_padding h ≡ 0) (k : ℕ) (l : length js ≤ k) → view_of Crate s k ≡ refused (view-none h js s w bh b z k l)
+    (z : asked_padding h ≡ 0) (k : ℕ) (l : length js ≤ k) → view_of Crate s k ≡ Err (view-none h js s w bh b z k l)
 view-beneath h [] s w bh b z k l = view-refused s k (TooShort 12 8) (crate-empty Careful h s w bh z)
 view-beneath h (j ∷ js) s w bh b z k l =
     view-beyond s k (length (j ∷ js)) (crate-count h (j ∷ js) s w bh b z (omega arith)) l
 
 module _ (h : Job) (js : List Job) (s : List ℕ) (w : Fit Careful h js s) (bh : Body h) (b : Each Body js) where
   -- each block is read in both readings, or refused by the crate
-  by-view : {P : Type 0} (k : ℕ) → (k < length js → Both s k → P) → ((x : Refusal) → view_of Crate s k ≡ refused x → P)
+  by-view : {P : Type 0} (k : ℕ) → (k < length js → Both s k → P) → ((x : Refusal) → view_of Crate s k ≡ Err x → P)
       → P
   by-view k f g =
       either (eqb (asked_padding h) 0)
@@ -160,7 +158,7 @@ module _ (h : Job) (js : List Job) (s : List ℕ) (w : Fit Careful h js s) (bh :
   within : (k : ℕ) → misleads s k ≡ true → k < length js
   within k t = by-view k (λ l _. l) (λ x e. true≢false (sym (unseen-misleads s k x e) ∙ t))
 
-  counted : (m : ℕ) → count_of Crate s ≡ Done m → m ≡ length js
+  counted : (m : ℕ) → count_of Crate s ≡ Ok m → m ≡ length js
   counted m e =
       either (eqb (asked_padding h) 0)
       (λ t. by_blocks js w b (eqb-true _ _ t))
@@ -176,7 +174,7 @@ module _ (h : Job) (js : List Job) (s : List ℕ) (w : Fit Careful h js s) (bh :
           let q : m ≡ length (j ∷ js) = cc in q
 
   -- 15, and what is written
-  first : (k : ℕ) → misleading_from s 0 (length js) ≡ Unfit (Misleads k) → FirstMisleading s k
+  first : (k : ℕ) → misleading_from s 0 (length js) ≡ Err (Misleads k) → FirstMisleading s k
   first k e =
       let p = first-misleads s (length js) 0 k e in
       record {
@@ -184,14 +182,14 @@ module _ (h : Job) (js : List Job) (s : List ℕ) (w : Fit Careful h js s) (bh :
         first = λ i l. (no_more i (p.1 i (omega arith) l)).0;
       }
 
-  back : (k : ℕ) → FirstMisleading s k → misleading_from s 0 (length js) ≡ Unfit (Misleads k)
+  back : (k : ℕ) → FirstMisleading s k → misleading_from s 0 (length js) ≡ Err (Misleads k)
   back k f =
       either (misleads s k)
       (λ t. misleads-first s (length js) 0 k (omega arith) (omega (arith, within k t)) t
       (λ i _ l. no_less i (f.first i l)))
       (λ m. absurd (f.misleads (no_more k m).0))
 
-  all : misleading_from s 0 (length js) ≡ Fine → (k : ℕ) → AsStandard s k × AsShown s k
+  all : misleading_from s 0 (length js) ≡ Ok tt → (k : ℕ) → AsStandard s k × AsShown s k
   all e k =
       either (ltb k (length js))
       (λ l. let m : k < length js = ltb-true _ _ l in
@@ -204,11 +202,11 @@ module _ (h : Job) (js : List Job) (s : List ℕ) (w : Fit Careful h js s) (bh :
 abbrev laid : List ℕ → List ℕ
 laid list = layout_of Careful (jobs_of list)
 
-abbrev fifteen_of : List ℕ → Checked
+abbrev fifteen_of : List ℕ → Or (Unit {0})
 fifteen_of list = misleading_from (laid list) 0 (blocks_in (jobs_of list))
 
 -- a judged list is answered by 15 alone
-judged-answer : (list : List ℕ) → Judged list → packet_of Careful list ≡ on_fine (fifteen_of list) (shown (laid list))
+judged-answer : (list : List ℕ) → Judged list → packet_of Careful list ≡ on_fine (fifteen_of list) (Ok (laid list))
 unfolding packet_of write_fault
 judged-answer list g = rw (g.good, g.fits)
 
@@ -219,29 +217,29 @@ by-records : (P : List Job → ℕ → List ℕ → Type 0) (list : List ℕ) �
     → P (jobs_of list) (blocks_in (jobs_of list)) (laid list)
 by-records P list g f = by_first (jobs_of list) (some-record list) (bodies list g.bytes) g.good g.fits
   where
-    by_first : (js : List Job) → (js ≡ [] → ⊥) → Each Body js → jobs_fault 0 js ≡ Fine
-        → size_fault (blocks_in js) (length (layout_of Careful js)) ≡ Fine → P js (blocks_in js) (layout_of Careful js)
+    by_first : (js : List Job) → (js ≡ [] → ⊥) → Each Body js → jobs_fault 0 js ≡ Ok tt
+        → size_fault (blocks_in js) (length (layout_of Careful js)) ≡ Ok tt → P js (blocks_in js) (layout_of Careful js)
     by_first [] k b e z = absurd (k refl)
     by_first (h ∷ js) k b e z =
         let n : length js ≡ blocks_in (h ∷ js) = omega arith in
         subst (λ (n : ℕ). P (h ∷ js) n (layout_of Careful (h ∷ js))) n (f h js (fit Careful h js e z) b.0 b.1)
 
-unfit-refused : {A : Type 0} (c : Checked) (a : A) (x : Refusal) → on_fine c (shown a) ≡ refused x → c ≡ Unfit x
-unfit-refused Fine a x e = absurd (let z : ◌≡◌ {A = ℕ} 0 1 = cc in omega arith)
-unfit-refused (Unfit y) a x e = cc
+unfit-refused : {A : Type 0} (c : Or (Unit {0})) (a : A) (x : Refusal) → on_fine c (Ok a) ≡ Err x → c ≡ Err x
+unfit-refused (Ok _) a x e = absurd (let z : ◌≡◌ {A = ℕ} 0 1 = cc in omega arith)
+unfit-refused (Err y) a x e = cc
 
 pub fifteen : Fifteen
 fifteen list g k = let a = judged-answer list g in (
   (λ e. to (unfit-refused (fifteen_of list) (laid list) (Misleads k) (sym a ∙ e))),
-  (λ f. a ∙ ap (λ (c : Checked). on_fine c (shown (laid list))) (from f)),
+  (λ f. a ∙ ap (λ (c : Or (Unit {0})). on_fine c (Ok (laid list))) (from f)),
 )
   where
-    to : fifteen_of list ≡ Unfit (Misleads k) → FirstMisleading (laid list) k
-    to = by-records (λ _ n s. misleading_from s 0 n ≡ Unfit (Misleads k) → FirstMisleading s k)
+    to : fifteen_of list ≡ Err (Misleads k) → FirstMisleading (laid list) k
+    to = by-records (λ _ n s. misleading_from s 0 n ≡ Err (Misleads k) → FirstMisleading s k)
         list g (λ h js w bh b. first h js _ w bh b k)
 
-    from : FirstMisleading (laid list) k → fifteen_of list ≡ Unfit (Misleads k)
-    from = by-records (λ _ n s. FirstMisleading s k → misleading_from s 0 n ≡ Unfit (Misleads k))
+    from : FirstMisleading (laid list) k → fifteen_of list ≡ Err (Misleads k)
+    from = by-records (λ _ n s. FirstMisleading s k → misleading_from s 0 n ≡ Err (Misleads k))
         list g (λ h js w bh b. back h js _ w bh b k)
 
 pub unread : Unread
@@ -253,22 +251,22 @@ unread list g = let a = judged-answer list g in (
 )
   where
     padded : let n = asked_padding (record_at (jobs_of list) 0) in
-        0 < n → count_of Crate (laid list) ≡ Refused (BlockTooLong ((n + 1) * 4) 4)
+        0 < n → count_of Crate (laid list) ≡ Err (BlockTooLong ((n + 1) * 4) 4)
     padded =
         by-records (λ js _ s. let n = asked_padding (record_at js 0) in
-        0 < n → count_of Crate s ≡ Refused (BlockTooLong ((n + 1) * 4) 4))
+        0 < n → count_of Crate s ≡ Err (BlockTooLong ((n + 1) * 4) 4))
         list g (λ h js w bh b. crate-padded Careful h js _ w bh b)
 
     empty : asked_padding (record_at (jobs_of list) 0) ≡ 0 → blocks_in (jobs_of list) ≡ 0
-        → count_of Crate (laid list) ≡ Refused (TooShort 12 8)
+        → count_of Crate (laid list) ≡ Err (TooShort 12 8)
     empty =
         by-records (λ js n s. asked_padding (record_at js 0) ≡ 0 → n ≡ 0
-        → count_of Crate s ≡ Refused (TooShort 12 8))
+        → count_of Crate s ≡ Err (TooShort 12 8))
         list g none
       where
         none : (h : Job) (js : List Job) → Fit Careful h js (layout_of Careful (h ∷ js)) → Body h → Each Body js
             → asked_padding h ≡ 0 → length js ≡ 0
-            → count_of Crate (layout_of Careful (h ∷ js)) ≡ Refused (TooShort 12 8)
+            → count_of Crate (layout_of Careful (h ∷ js)) ≡ Err (TooShort 12 8)
         none h [] w bh b z e = crate-empty Careful h _ w bh z
         none h (j ∷ js) w bh b z e = absurd (omega arith)
 
@@ -277,16 +275,16 @@ not-misled list out out' n bytes p =
     let e = listed-taken out out' n (packet_of Careful list) p in
     let w = written Careful list (take n out') e in
     let g : Judged list = record { bytes = bytes; good = w.0; fits = w.1 } in
-    let f : fifteen_of list ≡ Fine =
+    let f : fifteen_of list ≡ (Ok tt) =
     (on_fine_lem (fifteen_of list) (laid list) (take n out') (sym (judged-answer list g) ∙ e)).0 in
     rw (← w.2) (counts g, (λ k. (seen g f k).0), (λ k. (seen g f k).1))
   where
-    counts : Judged list → (m : ℕ) → count_of Crate (laid list) ≡ Done m → m ≡ blocks_in (jobs_of list)
+    counts : Judged list → (m : ℕ) → count_of Crate (laid list) ≡ Ok m → m ≡ blocks_in (jobs_of list)
     counts g =
-        by-records (λ _ n s. (m : ℕ) → count_of Crate s ≡ Done m → m ≡ n)
+        by-records (λ _ n s. (m : ℕ) → count_of Crate s ≡ Ok m → m ≡ n)
         list g (λ h js w bh b. counted h js _ w bh b)
 
-    seen : Judged list → fifteen_of list ≡ Fine → (k : ℕ) → AsStandard (laid list) k × AsShown (laid list) k
+    seen : Judged list → fifteen_of list ≡ Ok tt → (k : ℕ) → AsStandard (laid list) k × AsShown (laid list) k
     seen g =
-        by-records (λ _ n s. misleading_from s 0 n ≡ Fine → (k : ℕ) → AsStandard s k × AsShown s k)
+        by-records (λ _ n s. misleading_from s 0 n ≡ Ok tt → (k : ℕ) → AsStandard s k × AsShown s k)
         list g (λ h js w bh b. all h js _ w bh b)

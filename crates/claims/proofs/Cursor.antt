@@ -1,14 +1,12 @@
 -- The number cursor by calls of any budgets lists what the list functions list. Assumes nothing.
+use Rattle.std.specs.Prelude.{Ok, Err}
 use Prim.Native.Nat.{ℕ, ◌≤◌, ◌<◌}
 use mathlib.Core.Path.{◌≡◌, refl, sym, ap, ◌∙◌}
 use mathlib.Core.List.{List, ◌++◌}
 use native.Mathlib.Omega.{arith}
 use lib.ListN.{length, take, drop}
 use lib.Seq.{take-append_seam}
-use Rattle.def_refusals.specs.declared.Answer.TheVariants.{Done}
-use Rattle.def_refusals.specs.declared.Checked.{Checked}
-use Rattle.def_refusals.specs.declared.Checked.TheVariants.{Fine, Unfit}
-use Rattle.def_refusals.specs.Answers.{Or, shown, refused, on_fine, answer_of, Listed}
+use Rattle.def_refusals.specs.Answers.{Or, on_fine, answer_of, Listed}
 use Rattle.def_wire.specs.declared.Reading.TheVariants.{Standard}
 use Rattle.def_wire.specs.declared.Rle.{Rle}
 use Rattle.def_wire.specs.declared.Ranged.TheVariants.{Chunks}
@@ -22,7 +20,6 @@ use Rattle.def_questions.specs.Questions.{numbers_shown}
 use Rattle.def_questions.specs.Packets.{numbers_asked}
 use Rattle.def_cursor.specs.declared.Cursor.{Cursor}
 use Rattle.def_cursor.specs.declared.Stretch.{Stretch}
-use Rattle.def_cursor.specs.declared.Advanced.TheVariants.{Moved}
 use Rattle.def_cursor.specs.Cursor.{start, taken_by, after_steps, listed_by, steps_left, stretch_of, advance_to, left_to}
 use Rattle.def_cursor.specs.Cursor.{advance_fault}
 use Rattle.def_cursor.specs.Cursor.{advance_of, stretch_filled, Stretched}
@@ -35,18 +32,18 @@ use Rattle.claims.specs.Cursor.{Calls, ended, called, CallsIn, ended-in, called-
 
 -- ---- a listing call that was not refused
 
-fine-taken : (out out' : List ℕ) (n : ℕ) (f : Checked) (l : List ℕ) → Listed (on_fine f (shown l)) out (Done n) out'
+fine-taken : (out out' : List ℕ) (n : ℕ) (f : Or (Unit {0})) (l : List ℕ) → Listed (on_fine f (Ok l)) out (Ok n) out'
     → l ≡ take n out'
 unfolding answer_of
-fine-taken out out' n Fine l p = shown-taken out out' n l p
-fine-taken out out' n (Unfit x) l p = absurd (let e = p.answer in let z : ◌≡◌ {A = ℕ} 0 1 = cc in omega arith)
+fine-taken out out' n (Ok _) l p = shown-taken out out' n l p
+fine-taken out out' n (Err x) l p = absurd (let e = p.answer in let z : ◌≡◌ {A = ℕ} 0 1 = cc in omega arith)
 
 -- ---- calls on a view
 
-moved-fine : (f : Checked) (u s : Stretch) (l out out' : List ℕ) → Moved s ≡ advance_to f u → out' ≡ left_to f l out
+moved-fine : (f : Or (Unit {0})) (u s : Stretch) (l out out' : List ℕ) → Ok s ≡ advance_to f u → out' ≡ left_to f l out
     → (s ≡ u) × (out' ≡ l ++ drop (length l) out)
-moved-fine Fine u s l out out' p q = (cc, q)
-moved-fine (Unfit x) u s l out out' p q = absurd (let z : ◌≡◌ {A = ℕ} 0 1 = cc in omega arith)
+moved-fine (Ok _) u s l out out' p q = (cc, q)
+moved-fine (Err x) u s l out out' p q = absurd (let z : ◌≡◌ {A = ℕ} 0 1 = cc in omega arith)
 
 module _ (a : Rle) (v : List ℕ) where
   abbrev g : Range
@@ -56,7 +53,7 @@ module _ (a : Rle) (v : List ℕ) where
   ws = standard_words v
 
   -- a call that moved gives the stretch of its budget
-  moved-stretch : (c : Cursor) (b : ℕ) (out out' : List ℕ) (s : Stretch) → Stretched a v c b out (Moved s) out'
+  moved-stretch : (c : Cursor) (b : ℕ) (out out' : List ℕ) (s : Stretch) → Stretched a v c b out (Ok s) out'
       → (s ≡ stretch_of g ws c b) × (out' ≡ listed_by g ws b c ++ drop (length (listed_by g ws b c)) out)
   unfolding advance_of stretch_filled
   moved-stretch c b out out' s p =
@@ -99,14 +96,14 @@ cursor-lists a v budgets taken l p h out out' n q =
 -- ---- calls on a packet's block: its view is there, and the calls are calls on it
 
 view-there : (s : List ℕ) (k : ℕ) (a : Rle) (out out' : List ℕ) (n : ℕ) (w : Or (List ℕ)) → view_of Standard s k ≡ w
-    → Listed (numbers_asked Standard s k a) out (Done n) out' → (P : Type 0)
-    → ((v : List ℕ) → view_of Standard s k ≡ shown v → P) → P
+    → Listed (numbers_asked Standard s k a) out (Ok n) out' → (P : Type 0)
+    → ((v : List ℕ) → view_of Standard s k ≡ Ok v → P) → P
 unfolding numbers_asked answer_of
-view-there s k a out out' n (shown v) e q P f = f v e
-view-there s k a out out' n (refused x) e q P f =
+view-there s k a out out' n (Ok v) e q P f = f v e
+view-there s k a out out' n (Err x) e q P f =
     absurd (let d = rw e at q.answer in let z : ◌≡◌ {A = ℕ} 0 1 = cc in omega arith)
 
-module _ (s : List ℕ) (k : ℕ) (a : Rle) (v : List ℕ) (e : view_of Standard s k ≡ shown v) where
+module _ (s : List ℕ) (k : ℕ) (a : Rle) (v : List ℕ) (e : view_of Standard s k ≡ Ok v) where
   calls-on-view : {c : Cursor} {budgets taken : ℕ} {l : List ℕ} → CallsIn s k a c budgets taken l
       → Calls a v c budgets taken l
   calls-on-view ended-in = ended

@@ -1,5 +1,6 @@
 -- Thinning counts from zero and not from begin. Assumes nothing.
 --     ahead, by-distance, numbers_on, pairs-on, moved_up     the claims
+use Rattle.std.specs.Prelude.{Ok, Err}
 use Prim.Native.Nat.{ℕ, ◌%◌, ◌^◌, ◌≤◌, ◌<◌, min}
 use mathlib.Core.Path.{◌≡◌, refl, sym, subst, ◌∙◌}
 use mathlib.Core.List.{List, [], ◌∷◌, ◌++◌, map}
@@ -8,10 +9,7 @@ use native.Mathlib.Omega.{arith}
 use lib.ListN.{length, get_or, drop, length-map, get_or-append}
 use lib.Dec.{leb, lit<}
 use Rattle.laws.proofs.Tests.{by-test}
-use Rattle.def_refusals.specs.declared.Answer.TheVariants.{Done}
-use Rattle.def_refusals.specs.declared.Checked.{Checked}
-use Rattle.def_refusals.specs.declared.Checked.TheVariants.{Fine, Unfit}
-use Rattle.def_refusals.specs.Answers.{Or, shown, refused, on_fine, each, answer_of, filled_of}
+use Rattle.def_refusals.specs.Answers.{Or, on_fine, each, answer_of, filled_of}
 use Rattle.def_wire.specs.declared.Reading.TheVariants.{Standard}
 use Rattle.def_wire.specs.declared.Ranged.TheVariants.{Chunks, Times}
 use Rattle.def_wire.specs.declared.Kind.TheVariants.{Spans}
@@ -39,12 +37,12 @@ moved_up f b e h = range_moved f b e h
 -- ---- what calls store
 
 -- what holds of all that is shown holds of each number that was stored
-stored : (P : ℕ → Type 0) (whole : Or (List ℕ)) (room n : ℕ) (out out' : List ℕ) → Done n ≡ answer_of whole room
-    → out' ≡ filled_of whole room out → ((l : List ℕ) → whole ≡ shown l → Each P l) → (i : ℕ) → i < n
+stored : (P : ℕ → Type 0) (whole : Or (List ℕ)) (room n : ℕ) (out out' : List ℕ) → Ok n ≡ answer_of whole room
+    → out' ≡ filled_of whole room out → ((l : List ℕ) → whole ≡ Ok l → Each P l) → (i : ℕ) → i < n
     → P (get_or out' i 0)
 unfolding answer_of filled_of
-stored P (refused x) room n out out' a f h i k = absurd (let z : ◌≡◌ {A = ℕ} 0 1 = cc in omega arith)
-stored P (shown l) room n out out' a f h i k =
+stored P (Err x) room n out out' a f h i k = absurd (let z : ◌≡◌ {A = ℕ} 0 1 = cc in omega arith)
+stored P (Ok l) room n out out' a f h i k =
     by-test (leb (length l) room)
     (λ t e.
     let m : n ≡ length l = sym (done-eq e) in
@@ -70,10 +68,10 @@ numbers_on a v out out' n p =
 abbrev number_in : Receipt → ℕ
 number_in x = x.number
 
-on-each : (c : Checked) (x : List Receipt) (l : List ℕ) → each number_in (on_fine c (shown x)) ≡ shown l
+on-each : (c : Or (Unit {0})) (x : List Receipt) (l : List ℕ) → each number_in (on_fine c (Ok x)) ≡ Ok l
     → map number_in x ≡ l
-on-each Fine x l e = cc
-on-each (Unfit z) x l e = not-shown e
+on-each (Ok _) x l e = cc
+on-each (Err z) x l e = not-shown e
 
 each_number : (P : ℕ → Type 0) (l : List Receipt) → Each (λ (x : Receipt). P x.number) l → Each P (map number_in l)
 each_number P [] e = tt
@@ -81,8 +79,8 @@ each_number P (x ∷ l) e = (e.0, each_number P l e.1)
 
 same_answer : (whole : Or (List Receipt)) (room : ℕ) → answer_of whole room ≡ answer_of (each number_in whole) room
 unfolding answer_of
-same_answer (shown l) room = rw (length-map l number_in)
-same_answer (refused x) room = refl
+same_answer (Ok l) room = rw (length-map l number_in)
+same_answer (Err x) room = refl
 
 pub pairs-on : PairsOn
 unfolding pairs_shown
@@ -90,7 +88,7 @@ pairs-on v ns ts ns' ts' n p =
     let P : ℕ → Type 0 = λ (x : ℕ). x % 2 ^ (fields_at v).thinning ≡ 0 in
     let c = check_of Standard (Spans Times) v in
     let room = min (length ns) (length ts) in
-    stored P (each number_in (on_fine c (shown (standard_pairs v)))) room n ns ns'
-    (p.answer ∙ same_answer (on_fine c (shown (standard_pairs v))) room) p.numbers
+    stored P (each number_in (on_fine c (Ok (standard_pairs v)))) room n ns ns'
+    (p.answer ∙ same_answer (on_fine c (Ok (standard_pairs v))) room) p.numbers
     (λ l e. subst (Each P) (on-each c (standard_pairs v) l e)
     (each_number P (standard_pairs v) (pairs-grid (fields_at v) (thin v) (words32 (drop 12 v)))))

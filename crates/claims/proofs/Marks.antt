@@ -1,14 +1,13 @@
 -- Words from heard marks, and the report made of them, read back. Assumes nothing.
 --     marks-covered, report-read, report-calls     the claims
+use Rattle.std.specs.Prelude.{Ok, Err}
 use Prim.Native.Nat.{ℕ, ◌≤◌}
 use mathlib.Core.Path.{◌≡◌, refl, sym, subst, ◌∙◌}
 use mathlib.Core.List.{List, [], ◌∷◌, ◌++◌}
 use native.Mathlib.Omega.{arith}
 use lib.ListN.{take}
 use lib.Seq.{take-append_seam}
-use Rattle.def_refusals.specs.declared.Checked.{Checked}
-use Rattle.def_refusals.specs.declared.Checked.TheVariants.{Fine, Unfit}
-use Rattle.def_refusals.specs.Answers.{shown}
+use Rattle.def_refusals.specs.Answers.{Or}
 use Rattle.def_wire.specs.declared.Reading.{Reading}
 use Rattle.def_wire.specs.declared.Reading.TheVariants.{Standard, Crate}
 use Rattle.def_wire.specs.declared.Rle.TheVariants.{Loss}
@@ -42,12 +41,12 @@ use Rattle.claims.proofs.RoundTrip.{reads-back}
 -- ---- the words
 
 -- marks that are not refused
-pub fine-asked : (ms ws : List ℕ) → marks_asked ms ≡ shown ws → (marks_fault ms ≡ Fine) × (words_of ms ≡ ws)
+pub fine-asked : (ms ws : List ℕ) → marks_asked ms ≡ Ok ws → (marks_fault ms ≡ Ok tt) × (words_of ms ≡ ws)
 fine-asked ms ws e = by-fault (marks_fault ms) refl
   where
-    by-fault : (c : Checked) → marks_fault ms ≡ c → (marks_fault ms ≡ Fine) × (words_of ms ≡ ws)
-    by-fault Fine f = (f, let i : shown (words_of ms) ≡ shown ws = sym (asked-fine ms f) ∙ e in cc)
-    by-fault (Unfit x) f = not-shown (sym (asked-unfit ms x f) ∙ e)
+    by-fault : (c : Or (Unit {0})) → marks_fault ms ≡ c → (marks_fault ms ≡ Ok tt) × (words_of ms ≡ ws)
+    by-fault (Ok _) f = (f, let i : Ok (words_of ms) ≡ Ok ws = sym (asked-fine ms f) ∙ e in cc)
+    by-fault (Err x) f = not-shown (sym (asked-unfit ms x f) ∙ e)
 
 words-covered : (ms : List ℕ) → Marks ms → Covers ms (words_of ms)
 words-covered ms marks =
@@ -79,7 +78,7 @@ module _ (sender media b : ℕ) (ms : List ℕ) (a : Asked sender media b ms) wh
   abbrev laid : Layout → List ℕ
   laid layout = layout_of layout (header_job sender ∷ loss ∷ [])
 
-  written : (layout : Layout) → packet_of layout (report_of sender media b ms) ≡ shown (laid layout)
+  written : (layout : Layout) → packet_of layout (report_of sender media b ms) ≡ Ok (laid layout)
   written = report-written sender media b ms a.media32 a.begin16 a.few a.marks
 
   -- what the answers come to
@@ -99,7 +98,7 @@ module _ (sender media b : ℕ) (ms : List ℕ) (a : Asked sender media b ms) wh
       (rw (report-asks sender media b ms a.media32 a.begin16 a.few a.marks) at
       ((back layout).answered 0 (omega arith)))
 
-  old-view : view_of Crate (laid Careful) 0 ≡ shown (block_bytes Careful loss ++ [])
+  old-view : view_of Crate (laid Careful) 0 ≡ Ok (block_bytes Careful loss ++ [])
   unfolding blocks_bytes
   old-view =
       let body = bodies-are sender media b ms a.media32 a.begin16 a.few a.marks in
@@ -110,7 +109,7 @@ module _ (sender media b : ℕ) (ms : List ℕ) (a : Asked sender media b ms) wh
   by-crate : Heard Crate media b ms (laid Careful)
   by-crate =
       heard Crate (laid Careful)
-      (shown-answered Crate (laid Careful) 0 asked (shown (block_bytes Careful loss ++ [])) old-view
+      (shown-answered Crate (laid Careful) 0 asked (Ok (block_bytes Careful loss ++ [])) old-view
       (λ e. let z : ◌≡◌ {A = ℕ} 0 1 = cc in omega arith)
       (report-old sender media b ms a.media32 a.begin16 a.few a.marks))
 

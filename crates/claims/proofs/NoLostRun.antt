@@ -1,5 +1,6 @@
 -- Nothing that is made here holds a run of ones of no length. Assumes nothing.
 --     words-clear, packets-clear, chunk-clear     the claims
+use Rattle.std.specs.Prelude.{Ok, Err, Some}
 use Prim.Native.Nat.{ℕ, ◌+◌, ◌≤◌, ◌<◌}
 use mathlib.Core.Path.{◌≡◌, refl, sym, ap, subst, ◌∙◌}
 use mathlib.Core.Bool.{false}
@@ -8,24 +9,19 @@ use native.Mathlib.Omega.{arith}
 use lib.ListN.{length, take}
 use lib.Dec.{ltb, leb, eqb}
 use borrow.Author.Tests.{le-ltb, ltb-true, ltb-false, leb-true, eqb-false}
+use Rattle.def_wire.specs.declared.Fields.{Fields}
 use Rattle.laws.proofs.Tests.{either, by-test}
-use Rattle.def_refusals.specs.declared.Checked.TheVariants.{Fine}
 use Rattle.def_refusals.specs.declared.Refusal.TheVariants.{NoBlock}
-use Rattle.def_refusals.specs.Answers.{shown, refused, on_shown}
+use Rattle.def_refusals.specs.Answers.{on_shown, Or}
 use Rattle.def_wire.specs.declared.Reading.TheVariants.{Standard}
 use Rattle.def_wire.specs.declared.Rle.{Rle}
 use Rattle.def_wire.specs.declared.Ranged.TheVariants.{Chunks}
 use Rattle.def_wire.specs.declared.Kind.TheVariants.{Spans}
-use Rattle.def_wire.specs.declared.KindOr.TheVariants.{AKind}
-use Rattle.def_wire.specs.declared.FieldsOr.{FieldsOr}
-use Rattle.def_wire.specs.declared.FieldsOr.TheVariants.{Shown, NoneOf}
 use Rattle.def_wire.specs.Bytes.{pair_up, two, words16}
 use Rattle.def_wire.specs.Packet.{locate, view_of}
 use Rattle.def_wire.specs.Block.{type_of, words_at, kind_type, kind_of, standard_rule, lost_run, has, check_of, fields_of}
 use Rattle.def_standard.specs.declared.Chunk.{Chunk}
 use Rattle.def_standard.specs.declared.Chunk.TheVariants.{Null, Skip, Run, Vector}
-use Rattle.def_standard.specs.declared.MadeWord.{MadeWord}
-use Rattle.def_standard.specs.declared.MadeWord.TheVariants.{Word, Unmade}
 use Rattle.def_standard.specs.Chunks.{within, word_of, bytes_of_made, word_bytes}
 use Rattle.def_questions.specs.Questions.{numbers_shown}
 use Rattle.def_jobs.specs.declared.Layout.{Layout}
@@ -57,30 +53,30 @@ words-clear ms out out' n p =
 
 -- a block that the standard shows is fit to be read, and so its words are clear
 module _ (a : Rle) (v : List ℕ) where
-  check-clear : check_of Standard (Spans (Chunks a)) v ≡ Fine → has lost_run (words_at v) ≡ false
+  check-clear : check_of Standard (Spans (Chunks a)) v ≡ Ok tt → has lost_run (words_at v) ≡ false
   unfolding check_of
   check-clear =
       by-test (eqb (type_of v) (kind_type (Spans (Chunks a))))
       (λ _ e. fine-clear (length v) (words_at v)
       (both-fine (standard_rule (Spans (Chunks a)) (length v)) _ (sym (fit-chunks v a) ∙ e)).1) (λ _ e. no-fault e)
 
-  fields-clear : (x : FieldsOr) (r : Record) → fields_of Standard (Chunks a) v ≡ x
-      → on_fields x (λ f. on_shown (numbers_shown Standard a v) (λ l. shown (reported a f l))) ≡ shown r
+  fields-clear : (x : Or Fields) (r : Record) → fields_of Standard (Chunks a) v ≡ x
+      → on_fields x (λ f. on_shown (numbers_shown Standard a v) (λ l. Ok (reported a f l))) ≡ Ok r
       → has lost_run (words_at v) ≡ false
-  fields-clear (Shown f) r p e = check-clear (fields-fine Standard v (Chunks a) f p).0
-  fields-clear (NoneOf z) r p e = not-shown e
+  fields-clear (Ok f) r p e = check-clear (fields-fine Standard v (Chunks a) f p).0
+  fields-clear (Err z) r p e = not-shown e
 
-  record-clear : (r : Record) → kind_of (type_of v) ≡ AKind (Spans (Chunks a)) → record_of Standard v ≡ shown r
+  record-clear : (r : Record) → kind_of (type_of v) ≡ Some (Spans (Chunks a)) → record_of Standard v ≡ Ok r
       → has lost_run (words_at v) ≡ false
   unfolding record_of
   record-clear r t e =
-      let d : record_as (AKind (Spans (Chunks a))) Standard v ≡ shown r = rw t at e in
+      let d : record_as (Some (Spans (Chunks a))) Standard v ≡ Ok r = rw t at e in
       fields-clear (fields_of Standard (Chunks a) v) r refl d
 
 module _ (layout : Layout) (js : List Job) (s : List ℕ) (h : Shows layout js s) (k : ℕ) (v : List ℕ)
-    (e : view_of Standard s k ≡ shown v) where
+    (e : view_of Standard s k ≡ Ok v) where
   -- it is the block of a record
-  beyond : blocks_in js ≤ k → view_of Standard s k ≡ refused (NoBlock (blocks_in js))
+  beyond : blocks_in js ≤ k → view_of Standard s k ≡ Err (NoBlock (blocks_in js))
   unfolding locate
   beyond l = rw (h.counted, le-ltb _ _ l)
 
@@ -89,7 +85,7 @@ module _ (layout : Layout) (js : List Job) (s : List ℕ) (h : Shows layout js s
       either (ltb k (blocks_in js)) (λ t. ltb-true _ _ t)
       (λ f. not-shown (sym (beyond (ltb-false _ _ f)) ∙ e))
 
-  shown-clear : (a : Rle) → kind_of (type_of v) ≡ AKind (Spans (Chunks a)) → has lost_run (words_at v) ≡ false
+  shown-clear : (a : Rle) → kind_of (type_of v) ≡ Some (Spans (Chunks a)) → has lost_run (words_at v) ≡ false
   shown-clear a t = record-clear a v (asked_of (record_at js (k + 1))) t (rw e at (h.shows k inside))
 
 pub packets-clear : PacketsClear
@@ -104,12 +100,12 @@ abbrev Other : ℕ → Type 0
 Other w = (w < 65536) × (w ≡ lost_run → ⊥)
 
 -- one that is made of a value within its limit
-limited : (value limit x w : ℕ) → (value ≤ limit → Other x) → within value limit x ≡ Word w → Other w
+limited : (value limit x w : ℕ) → (value ≤ limit → Other x) → within value limit x ≡ Ok w → Other w
 limited value limit x w o =
     by-test (leb value limit) (λ t e. let i : x ≡ w = cc in subst Other i (o (leb-true _ _ t)))
     (λ _ e. absurd (let z : ◌≡◌ {A = ℕ} 0 1 = cc in omega arith))
 
-word-other : (c : Chunk) (w : ℕ) → word_of c ≡ Word w → Other w
+word-other : (c : Chunk) (w : ℕ) → word_of c ≡ Ok w → Other w
 unfolding word_of
 word-other Null w e =
     let i : 0 ≡ w = cc in (omega arith, λ d. absurd (omega arith))
@@ -120,15 +116,15 @@ word-other (Run n) w e =
     limited n 16383 (16384 + n) w (λ l. (omega arith, λ q. some (omega arith))) d) e
 word-other (Vector x) w e = limited x 32767 (32768 + x) w (λ l. (omega arith, λ d. omega arith)) e
 
-made-clear : (m : MadeWord) (l : List ℕ) → ((w : ℕ) → m ≡ Word w → Other w) → bytes_of_made m ≡ shown l
+made-clear : (m : Or ℕ) (l : List ℕ) → ((w : ℕ) → m ≡ Ok w → Other w) → bytes_of_made m ≡ Ok l
     → has lost_run (words16 l) ≡ false
 unfolding pair_up
-made-clear (Word w) l o e =
+made-clear (Ok w) l o e =
     let i : two w ≡ l = cc in
     let other = o w refl in
     ap (λ (s : List ℕ). has lost_run (words16 s)) (sym i) ∙ ap (has lost_run) (words16-two w [] other.0)
     ∙ has-behind lost_run w [] other.1 ∙ has-nil lost_run
-made-clear (Unmade x) l o e = not-shown e
+made-clear (Err x) l o e = not-shown e
 
 pub chunk-clear : ChunkClear
 chunk-clear c out out' n p =

@@ -3,6 +3,7 @@
 --     call-shows     what the next call gives
 --     fed-shows      what calls one after the other list, and the last refusal
 --     division, whole-reading, one_byte
+use Rattle.std.specs.Prelude.{Option, Ok, Err, Some, None}
 use Prim.Native.Nat.{ℕ, ◌+◌, ◌-◌, ◌%◌, ◌≤◌}
 use mathlib.Core.Path.{◌≡◌, refl, sym, ap, ap₂, subst, ◌∙◌}
 use mathlib.Core.Bool.{Bool, true, false, not, ◌&&◌}
@@ -11,16 +12,13 @@ use native.Mathlib.Omega.{arith}
 use lib.ListN.{length, take}
 use lib.Dec.{leb, eqb}
 use borrow.Author.Tests.{eqb-true, le-leb}
+use Rattle.def_wire.specs.declared.Kind.{Kind}
 use Rattle.laws.proofs.Tests.{by-test}
 use Rattle.def_refusals.specs.declared.Refusal.{Refusal}
 use Rattle.def_refusals.specs.declared.Refusal.TheVariants.{TooShort, WrongVersion, WrongPacketType, NoRoom, PastEnd}
 use Rattle.def_refusals.specs.declared.Refusal.TheVariants.{Padded, BlockTooLong}
-use Rattle.def_refusals.specs.declared.Checked.{Checked}
-use Rattle.def_refusals.specs.declared.Checked.TheVariants.{Fine, Unfit}
-use Rattle.def_refusals.specs.Answers.{then_check}
+use Rattle.def_refusals.specs.Answers.{then_check, Or}
 use Rattle.def_wire.specs.declared.Kind.TheVariants.{Spans, Clock, Echoes, Statistics}
-use Rattle.def_wire.specs.declared.KindOr.{KindOr}
-use Rattle.def_wire.specs.declared.KindOr.TheVariants.{AKind, NoKind}
 use Rattle.def_wire.specs.Packet.{announced_of, is_padded, version_of}
 use Rattle.def_wire.specs.Bytes.{byte_at, four}
 use Rattle.def_wire.specs.Block.{rule, next_fit, type_of, block_length, kind_of, standard_rule, lost_run, has, clear_rule}
@@ -48,7 +46,7 @@ use Rattle.claims.specs.Portions.{WholeReading, OneByte}
 
 record Stands (st : Portions) (b : List ℕ) : Type 0 where
   state : st ≡ after start b
-  within : past_fault b ≡ Fine
+  within : past_fault b ≡ Ok tt
 
 module _ {st : Portions} {b x t u v w t' u' v' w' : List ℕ} {r : Followed} (s : Stands st b) (y : Bytes (b ++ x))
     (f : Following st x t u v w r t' u' v' w') where
@@ -90,59 +88,59 @@ call-shows st b x t u v w t' u' v' w' r g y f =
 
 -- ---- calls one after the other
 
-unlike : {P : Type 0} {z : Refusal} → ◌≡◌ {A = Checked} Fine (Unfit z) → P
+unlike : {P : Type 0} {z : Refusal} → ◌≡◌ {A = Or (Unit {0})} (Ok tt) (Err z) → P
 unlike e = absurd (let q : ◌≡◌ {A = ℕ} 0 1 = cc in omega arith)
 
-unfit : {x z : Refusal} → ◌≡◌ {A = Checked} (Unfit x) (Unfit z) → x ≡ z
+unfit : {x z : Refusal} → ◌≡◌ {A = Or (Unit {0})} (Err x) (Err z) → x ≡ z
 unfit e = cc
 
 -- what a call that is neither 11 nor 19 leaves
-record Took (st : Portions) (x : List ℕ) (f : Checked) : Type 0 where
+record Took (st : Portions) (x : List ℕ) (f : Or (Unit {0})) : Type 0 where
   given : given_by f st x ≡ shows st x
   state : (followed_by f st x).state ≡ after st x
   refusal : (followed_by f st x).refusal ≡ fault_of (after st x)
 
 -- a state that stays refused takes nothing
-closed : (st : Portions) (z : Refusal) → fault_of st ≡ Unfit z → st.missing ≡ 0
+closed : (st : Portions) (z : Refusal) → fault_of st ≡ Err z → st.missing ≡ 0
 unfolding fault_of
 closed st z =
     by-test (eqb st.missing 0) (λ t e. eqb-true _ _ t) (λ t e. unlike e)
 
 -- 19 and 11 are what they are
-need-is : (b : Bool) (x z : Refusal) → need b x ≡ Unfit z → Unfit z ≡ Unfit x
+need-is : (b : Bool) (x z : Refusal) → need b x ≡ Err z → ◌≡◌ {A = Or (Unit {0})} (Err z) (Err x)
 need-is true x z e = unlike e
 need-is false x z e = sym e
 
 module _ (st : Portions) (x : List ℕ) (room : ℕ) where
-  past_is : (z : Refusal) → past_of st x ≡ Unfit z
-      → Unfit z ≡ Unfit (PastEnd (announced_by st x) (taken_in st + length x))
+  past_is : (z : Refusal) → past_of st x ≡ Err z
+      → ◌≡◌ {A = Or (Unit {0})} (Err z) (Err (PastEnd (announced_by st x) (taken_in st + length x)))
   unfolding past_of
   past_is z =
       by-test (eqb st.item head && eqb (announced_by st x) 0) (λ t e. unlike e)
       (λ t e. need-is (leb (taken_in st + length x) (announced_by st x)) _ z e)
 
-  took_by : (f g h : Checked) → fault_of st ≡ f → past_of st x ≡ g → room_fault (shows st x) room ≡ h
+  took_by : (f g h : Or (Unit {0})) → fault_of st ≡ f → past_of st x ≡ g → room_fault (shows st x) room ≡ h
       → IsTaken (followed_by (then_check f (then_check g h)) st x).refusal → Took st x (then_check f (then_check g h))
-  took_by (Unfit z) g h e p q i =
+  took_by (Err z) g h e p q i =
       let m = closed st z e in
       record {
         given = sym (shows-closed st m x);
         state = sym (after-closed st m x);
         refusal = rw (after-closed st m x) (sym e);
       }
-  took_by Fine (Unfit z) h e p q i = absurd (i.1 _ _ (past_is z p))
-  took_by Fine Fine (Unfit z) e p q i = absurd (i.0 _ _ (need-is (leb (length (shows st x)) room) _ z q))
-  took_by Fine Fine Fine e p q i = record { given = refl; state = refl; refusal = refl }
+  took_by (Ok _) (Err z) h e p q i = absurd (i.1 _ _ (past_is z p))
+  took_by (Ok _) (Ok _) (Err z) e p q i = absurd (i.0 _ _ (need-is (leb (length (shows st x)) room) _ z q))
+  took_by (Ok _) (Ok _) (Ok _) e p q i = record { given = refl; state = refl; refusal = refl }
 
   took : IsTaken (followed_of st x room).refusal → Took st x (call_fault st x room)
   unfolding followed_of call_fault
   took i = took_by (fault_of st) (past_of st x) (room_fault (shows st x) room) refl refl refl i
 
-record Shown (st : Portions) (s : List ℕ) (es : List Event) (last : Checked) : Type 0 where
+record Shown (st : Portions) (s : List ℕ) (es : List Event) (last : Or (Unit {0})) : Type 0 where
   events : es ≡ shows st s
   refusal : last ≡ fault_of (after st s)
 
-fed-shows : {st : Portions} {told last : Checked} {s : List ℕ} {es : List Event} → Fed st told s es last → Bounded st
+fed-shows : {st : Portions} {told last : Or (Unit {0})} {s : List ℕ} {es : List Event} → Fed st told s es last → Bounded st
     → told ≡ fault_of st → Shown st s es last
 unfolding shows after followed_of given_of
 fed-shows ended b e = record { events = refl; refusal = e }
@@ -174,24 +172,24 @@ whole-reading s n es x w y c p f =
 
 -- no item is refused as 11
 module _ (n m : ℕ) where
-  checked : (b : Bool) (x : Refusal) (next : Checked) → (◌≡◌ {A = Refusal} x (NoRoom n m) → ⊥)
-      → (next ≡ Unfit (NoRoom n m) → ⊥) → then_check (need b x) next ≡ Unfit (NoRoom n m) → ⊥
+  checked : (b : Bool) (x : Refusal) (next : Or (Unit {0})) → (◌≡◌ {A = Refusal} x (NoRoom n m) → ⊥)
+      → (next ≡ Err (NoRoom n m) → ⊥) → then_check (need b x) next ≡ Err (NoRoom n m) → ⊥
   checked true x next f g e = g e
   checked false x next f g e = f (unfit e)
 
-  ruled : (b : Bool) (expected actual : ℕ) → rule b expected actual ≡ Unfit (NoRoom n m) → ⊥
+  ruled : (b : Bool) (expected actual : ℕ) → rule b expected actual ≡ Err (NoRoom n m) → ⊥
   ruled true expected actual e = unlike e
   ruled false expected actual e = absurd (let q : ◌≡◌ {A = ℕ} 0 1 = cc in omega arith)
 
-  by_kind : (k : KindOr) (l : ℕ) → rule_of k l ≡ Unfit (NoRoom n m) → ⊥
+  by_kind : (k : Option Kind) (l : ℕ) → rule_of k l ≡ Err (NoRoom n m) → ⊥
   unfolding standard_rule
-  by_kind (AKind (Spans g)) l e = ruled (leb 12 l) 12 l e
-  by_kind (AKind Clock) l e = ruled (eqb l 12) 12 l e
-  by_kind (AKind Echoes) l e = ruled (eqb ((l - 4) % 12) 0) (next_fit l) l e
-  by_kind (AKind Statistics) l e = ruled (eqb l 40) 40 l e
-  by_kind NoKind l e = unlike e
+  by_kind (Some (Spans g)) l e = ruled (leb 12 l) 12 l e
+  by_kind (Some Clock) l e = ruled (eqb l 12) 12 l e
+  by_kind (Some Echoes) l e = ruled (eqb ((l - 4) % 12) 0) (next_fit l) l e
+  by_kind (Some Statistics) l e = ruled (eqb l 40) 40 l e
+  by_kind None l e = unlike e
 
-  head-not : (s : List ℕ) → head_fault s ≡ Unfit (NoRoom n m) → ⊥
+  head-not : (s : List ℕ) → head_fault s ≡ Err (NoRoom n m) → ⊥
   unfolding head_fault
   head-not s =
       checked (leb 8 (announced_of s)) (TooShort 8 (announced_of s)) _ (λ (e : TooShort 8 (announced_of s)
@@ -205,7 +203,7 @@ module _ (n m : ℕ) where
       (λ e. let z : NoRoom n m ≡ Padded = unfit (need-is (not (is_padded s)) Padded (NoRoom n m) e) in
       absurd (let q : ◌≡◌ {A = ℕ} 0 1 = cc in omega arith))))
 
-  not-room : (st : Portions) → fault_of st ≡ Unfit (NoRoom n m) → ⊥
+  not-room : (st : Portions) → fault_of st ≡ Err (NoRoom n m) → ⊥
   unfolding fault_of block_fault clear_rule
   not-room st =
       by-test (eqb st.missing 0)
@@ -222,14 +220,14 @@ module _ (n m : ℕ) where
       (λ t e. unlike e)
 
   -- a refusal as 11 says that there are more events than room
-  room_says : (st : Portions) (x : List ℕ) (room : ℕ) (f g h : Checked) → fault_of st ≡ f → past_of st x ≡ g
+  room_says : (st : Portions) (x : List ℕ) (room : ℕ) (f g h : Or (Unit {0})) → fault_of st ≡ f → past_of st x ≡ g
       → room_fault (shows st x) room ≡ h → length (shows st x) ≤ room
-      → (followed_by (then_check f (then_check g h)) st x).refusal ≡ Unfit (NoRoom n m) → ⊥
-  room_says st x room (Unfit z) g h e p q l w = not-room st (e ∙ w)
-  room_says st x room Fine (Unfit z) h e p q l w =
+      → (followed_by (then_check f (then_check g h)) st x).refusal ≡ Err (NoRoom n m) → ⊥
+  room_says st x room (Err z) g h e p q l w = not-room st (e ∙ w)
+  room_says st x room (Ok _) (Err z) h e p q l w =
       absurd (let o = sym w ∙ past_is st x room z p in let q : ◌≡◌ {A = ℕ} 0 1 = cc in omega arith)
-  room_says st x room Fine Fine (Unfit z) e p q l w = unlike (rw (le-leb _ _ l) at q)
-  room_says st x room Fine Fine Fine e p q l w = not-room (after st x) w
+  room_says st x room (Ok _) (Ok _) (Err z) e p q l w = unlike (rw (le-leb _ _ l) at q)
+  room_says st x room (Ok _) (Ok _) (Ok _) e p q l w = not-room (after st x) w
 
 pub one_byte : OneByte
 unfolding followed_of call_fault

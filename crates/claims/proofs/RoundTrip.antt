@@ -1,16 +1,16 @@
 -- A packet that was written reads back as its records ask. Assumes nothing.
+use Rattle.std.specs.Prelude.{Option, Some, None}
 use Prim.Native.Nat.{ℕ, ◌+◌}
 use mathlib.Core.Path.{◌≡◌, refl}
 use mathlib.Core.Bool.{true}
 use mathlib.Core.List.{List}
 use native.Mathlib.Omega.{arith}
 use lib.ListN.{take}
+use Rattle.def_wire.specs.declared.Kind.{Kind}
 use Rattle.laws.proofs.Tests.{true≢false}
 use Rattle.def_wire.specs.declared.Reading.TheVariants.{Standard}
 use Rattle.def_wire.specs.declared.Ranged.TheVariants.{Chunks, Times}
 use Rattle.def_wire.specs.declared.Kind.TheVariants.{Spans, Clock, Echoes, Statistics}
-use Rattle.def_wire.specs.declared.KindOr.{KindOr}
-use Rattle.def_wire.specs.declared.KindOr.TheVariants.{AKind, NoKind}
 use Rattle.def_wire.specs.Packet.{view_of}
 use Rattle.def_wire.specs.Block.{kind_of}
 use Rattle.def_jobs.specs.declared.Layout.{Layout}
@@ -25,13 +25,13 @@ use Rattle.claims.proofs.Answered.{shown-answered}
 use Rattle.claims.specs.RoundTrip.{ReadBack, RoundTrip}
 
 -- a record that asks for a block asks something
-asks-some : (t : KindOr) (j : Job) → is_body t j ≡ true → asked_as t j ≡ bare → ⊥
-asks-some (AKind (Spans (Chunks a))) j g e = let z : ◌≡◌ {A = ℕ} 0 1 = cc in omega arith
-asks-some (AKind (Spans Times)) j g e = let z : ◌≡◌ {A = ℕ} 0 1 = cc in omega arith
-asks-some (AKind Clock) j g e = let z : ◌≡◌ {A = ℕ} 0 1 = cc in omega arith
-asks-some (AKind Echoes) j g e = let z : ◌≡◌ {A = ℕ} 0 1 = cc in omega arith
-asks-some (AKind Statistics) j g e = let z : ◌≡◌ {A = ℕ} 0 1 = cc in omega arith
-asks-some NoKind j g e = true≢false g
+asks-some : (t : Option Kind) (j : Job) → is_body t j ≡ true → asked_as t j ≡ bare → ⊥
+asks-some (Some (Spans (Chunks a))) j g e = let z : ◌≡◌ {A = ℕ} 0 1 = cc in omega arith
+asks-some (Some (Spans Times)) j g e = let z : ◌≡◌ {A = ℕ} 0 1 = cc in omega arith
+asks-some (Some Clock) j g e = let z : ◌≡◌ {A = ℕ} 0 1 = cc in omega arith
+asks-some (Some Echoes) j g e = let z : ◌≡◌ {A = ℕ} 0 1 = cc in omega arith
+asks-some (Some Statistics) j g e = let z : ◌≡◌ {A = ℕ} 0 1 = cc in omega arith
+asks-some None j g e = true≢false g
 
 pub not-bare : (j : Job) → is_block_job j ≡ true → asked_of j ≡ bare → ⊥
 unfolding is_block_job asked_of

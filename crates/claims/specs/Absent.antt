@@ -3,18 +3,12 @@
 --     SummaryRead    so does block k of every packet that was written, where its record is of kind 6
 --     ClearFlags     one such packet: numbers are given, written, and read back as absent
 -- Nothing is asked of a writer but its contract; it was lent out, and left out' in it.
-use Rattle.std.specs.Prelude.{ℕ, ◌+◌, ◌<◌, ◌≡◌, true, false, List, [], ◌∷◌, take}
-use Rattle.def_refusals.specs.declared.Answer.TheVariants.{Done}
-use Rattle.def_refusals.specs.Answers.{shown, Listed}
+use Rattle.std.specs.Prelude.{ℕ, ◌+◌, ◌<◌, ◌≡◌, true, false, List, [], ◌∷◌, take, Ok, Some, None}
+use Rattle.def_refusals.specs.Answers.{Listed, Or}
 use Rattle.def_wire.specs.declared.Reading.TheVariants.{Standard}
 use Rattle.def_wire.specs.declared.Kind.TheVariants.{Statistics}
-use Rattle.def_wire.specs.declared.KindOr.TheVariants.{AKind}
-use Rattle.def_wire.specs.declared.CountOr.TheVariants.{Counted, Uncounted}
-use Rattle.def_wire.specs.declared.JitterOr.TheVariants.{Jitter, NoJitter}
 use Rattle.def_wire.specs.declared.HopsOr.TheVariants.{NoHops, Ttl, HopLimit}
 use Rattle.def_wire.specs.declared.Sums.{Sums}
-use Rattle.def_wire.specs.declared.SummaryOr.{SummaryOr}
-use Rattle.def_wire.specs.declared.SummaryOr.TheVariants.{Stated}
 use Rattle.def_wire.specs.declared.Summary.{Summary}
 use Rattle.def_wire.specs.Bytes.{byte_at}
 use Rattle.def_wire.specs.Block.{kind_of}
@@ -31,33 +25,33 @@ pub record ByFlags (flags : ℕ) (n : Sums) (x : Summary) : Type 0 where
   pub begin : x.begin ≡ n.begin
   pub end : x.end ≡ n.end
   -- L
-  pub lost : is_set 128 flags ≡ true → x.lost ≡ Counted n.lost
-  pub no-lost : is_set 128 flags ≡ false → x.lost ≡ Uncounted
+  pub lost : is_set 128 flags ≡ true → x.lost ≡ Some n.lost
+  pub no-lost : is_set 128 flags ≡ false → x.lost ≡ None
   -- D
-  pub duplicates : is_set 64 flags ≡ true → x.duplicates ≡ Counted n.duplicates
-  pub no-duplicates : is_set 64 flags ≡ false → x.duplicates ≡ Uncounted
+  pub duplicates : is_set 64 flags ≡ true → x.duplicates ≡ Some n.duplicates
+  pub no-duplicates : is_set 64 flags ≡ false → x.duplicates ≡ None
   -- J
-  pub jitter : is_set 32 flags ≡ true → x.jitter ≡ Jitter n.jitter
-  pub no-jitter : is_set 32 flags ≡ false → x.jitter ≡ NoJitter
+  pub jitter : is_set 32 flags ≡ true → x.jitter ≡ Some n.jitter
+  pub no-jitter : is_set 32 flags ≡ false → x.jitter ≡ None
   -- ToH
   pub ttl : toh_in flags ≡ 1 → x.hops ≡ Ttl n.hops
   pub hop-limit : toh_in flags ≡ 2 → x.hops ≡ HopLimit n.hops
   pub no-hops : toh_in flags ≡ 0 → x.hops ≡ NoHops
 
 -- an answer to `summary::summary_in`
-pub record Answers (flags : ℕ) (n : Sums) (a : SummaryOr) : Type 0 where
+pub record Answers (flags : ℕ) (n : Sums) (a : Or Summary) : Type 0 where
   pub summary : Summary
-  pub answered : a ≡ Stated summary
+  pub answered : a ≡ Ok summary
   pub flagged : ByFlags flags n summary
 
 -- of every packet of n bytes, in either layout, from a list of bytes
 abbrev pub SummaryRead : Type 0
 SummaryRead =
     (layout : Layout) (list out out' : List ℕ) (n : ℕ) → ((i : ℕ) → byte_at list i < 256)
-    → Listed (packet_of layout list) out (Done n) out'
+    → Listed (packet_of layout list) out (Ok n) out'
     → (k : ℕ) → k < blocks_in (jobs_of list)
     → let j = record_at (jobs_of list) (k + 1) in
-    kind_of j.kind ≡ AKind Statistics → Answers (job_flags j) (job_sums j) (summary_asked Standard (take n out') k)
+    kind_of j.kind ≡ Some Statistics → Answers (job_flags j) (job_sums j) (summary_asked Standard (take n out') k)
 
 -- a header record of sender 1; a summary of SSRC 2, begin 3, end 4 with D and ToH 1 alone: 5 lost, 6 duplicates, jitter
 -- 7 to 10, TTL 11 to 14
@@ -91,14 +85,14 @@ clear_packet =
 
 -- read back, lost and jitter are absent
 pub record ClearFlags : Type 0 where
-  pub written : packet_of Plain clear_list ≡ shown clear_packet
+  pub written : packet_of Plain clear_list ≡ Ok clear_packet
   pub read : summary_asked Standard clear_packet 0
-      ≡ Stated (record {
+      ≡ Ok (record {
         ssrc = 2;
         begin = 3;
         end = 4;
-        lost = Uncounted;
-        duplicates = Counted 6;
-        jitter = NoJitter;
+        lost = None;
+        duplicates = Some 6;
+        jitter = None;
         hops = Ttl (byte_spread 11 12 13 14);
       })

@@ -6,8 +6,7 @@
 --     PairsOn       and every number that `packet_receipt_time::pairs` stores
 --     MovedUp       fields whose begin is moved up to the grid report on the same numbers, if end does not come first
 -- Nothing is asked of a call but its contract; it was lent out, or ns and ts, and left out', or ns' and ts', in them.
-use Rattle.std.specs.Prelude.{ℕ, ◌+◌, ◌*◌, ◌%◌, ◌^◌, ◌<◌, ◌≡◌, List, get_or, ltb}
-use Rattle.def_refusals.specs.declared.Answer.TheVariants.{Done}
+use Rattle.std.specs.Prelude.{ℕ, ◌+◌, ◌*◌, ◌%◌, ◌^◌, ◌<◌, ◌≡◌, List, get_or, ltb, Ok}
 use Rattle.def_refusals.specs.Answers.{Listed}
 use Rattle.def_wire.specs.declared.Reading.TheVariants.{Standard}
 use Rattle.def_wire.specs.declared.Rle.{Rle}
@@ -29,14 +28,14 @@ ByDistance =
 abbrev pub NumbersOn : Type 0
 NumbersOn =
     (a : Rle) (v out out' : List ℕ) (n : ℕ)
-    → Listed (numbers_shown Standard a v) out (Done n) out'
+    → Listed (numbers_shown Standard a v) out (Ok n) out'
     → (i : ℕ) → i < n → get_or out' i 0 % 2 ^ (fields_at v).thinning ≡ 0
 
 -- n pairs of a block
 abbrev pub PairsOn : Type 0
 PairsOn =
     (v ns ts ns' ts' : List ℕ) (n : ℕ)
-    → ListedPairs (pairs_shown Standard v) ns ts (Done n) ns' ts'
+    → ListedPairs (pairs_shown Standard v) ns ts (Ok n) ns' ts'
     → (i : ℕ) → i < n → get_or ns' i 0 % 2 ^ (fields_at v).thinning ≡ 0
 
 -- the same fields from another number on

@@ -7,11 +7,9 @@
 --     Division        however the bytes are divided, these are the events and the refusal of all the bytes
 --     WholeReading    of a packet that the standard reads, they are what the reading functions answer of each block
 --     OneByte         room for 16,384 events is enough for one byte
-use Rattle.std.specs.Prelude.{ℕ, ◌≤◌, ◌<◌, ◌≡◌, false, List, [], ◌∷◌, ◌++◌, take}
+use Rattle.std.specs.Prelude.{ℕ, ◌≤◌, ◌<◌, ◌≡◌, false, List, [], ◌∷◌, ◌++◌, take, Ok, Err}
+use Rattle.def_refusals.specs.Answers.{Or}
 use Rattle.def_refusals.specs.declared.Refusal.TheVariants.{NoRoom, PastEnd}
-use Rattle.def_refusals.specs.declared.Answer.TheVariants.{Done}
-use Rattle.def_refusals.specs.declared.Checked.{Checked}
-use Rattle.def_refusals.specs.declared.Checked.TheVariants.{Fine, Unfit}
 use Rattle.def_wire.specs.declared.Reading.TheVariants.{Standard}
 use Rattle.def_wire.specs.Bytes.{byte_at}
 use Rattle.def_wire.specs.Packet.{count_of, is_padded}
@@ -45,33 +43,33 @@ CallShows =
     × (events_in t' u' v' w' r.events ≡ (call_of b x (room_in t u v w)).events)
 
 -- neither 11 nor 19
-abbrev pub IsTaken : Checked → Type 0
-IsTaken x = ((n m : ℕ) → x ≡ Unfit (NoRoom n m) → ⊥) × ((n m : ℕ) → x ≡ Unfit (PastEnd n m) → ⊥)
+abbrev pub IsTaken : Or (Unit {0}) → Type 0
+IsTaken x = ((n m : ℕ) → x ≡ Err (NoRoom n m) → ⊥) × ((n m : ℕ) → x ≡ Err (PastEnd n m) → ⊥)
 
-pub data Fed : Portions → Checked → List ℕ → List Event → Checked → Type 0 where
-  ended : {st : Portions} {told : Checked} → Fed st told [] [] told
-  fed : {st : Portions} {told last : Checked} {x y t u v w t' u' v' w' : List ℕ} {r : Followed} {es : List Event}
+pub data Fed : Portions → Or (Unit {0}) → List ℕ → List Event → Or (Unit {0}) → Type 0 where
+  ended : {st : Portions} {told : Or (Unit {0})} → Fed st told [] [] told
+  fed : {st : Portions} {told last : Or (Unit {0})} {x y t u v w t' u' v' w' : List ℕ} {r : Followed} {es : List Event}
       → Following st x t u v w r t' u' v' w' → IsTaken r.refusal → Fed r.state r.refusal y es last
       → Fed st told (x ++ y) (events_in t' u' v' w' r.events ++ es) last
 
 -- bytes up to the announced length
 abbrev pub Division : Type 0
 Division =
-    (s : List ℕ) (es : List Event) (x : Checked) → Fed start Fine s es x → Bytes s → past_fault s ≡ Fine
+    (s : List ℕ) (es : List Event) (x : Or (Unit {0})) → Fed start (Ok tt) s es x → Bytes s → past_fault s ≡ Ok tt
     → course es x ≡ course_of s
 
 -- a packet that the standard accepts, without padding, each block of types 1 to 6 fit to be read: the header, for each
 -- block its start and what the reading functions answer of it (followed's Whole), and the end
 abbrev pub WholeReading : Type 0
 WholeReading =
-    (s : List ℕ) (n : ℕ) (es : List Event) (x : Checked) → Fed start Fine s es x → Bytes s
-    → count_of Standard s ≡ Done n → is_padded s ≡ false
-    → ((k : ℕ) → k < n → fit_of (view_of s k) ≡ Fine)
-    → (es ≡ whole_of s n) × (x ≡ Fine)
+    (s : List ℕ) (n : ℕ) (es : List Event) (x : Or (Unit {0})) → Fed start (Ok tt) s es x → Bytes s
+    → count_of Standard s ≡ Ok n → is_padded s ≡ false
+    → ((k : ℕ) → k < n → fit_of (view_of s k) ≡ Ok tt)
+    → (es ≡ whole_of s n) × (x ≡ Ok tt)
 
 -- a run of 16,383 numbers and the end
 abbrev pub OneByte : Type 0
 OneByte =
     (st : Portions) (b : ℕ) (t u v w t' u' v' w' : List ℕ) (r : Followed)
     → Following st (b ∷ []) t u v w r t' u' v' w' → 16384 ≤ room_in t u v w → (n m : ℕ)
-    → r.refusal ≡ Unfit (NoRoom n m) → ⊥
+    → r.refusal ≡ Err (NoRoom n m) → ⊥

@@ -4,15 +4,11 @@
 --     RoundTrip     and so of every packet that was written, in either layout
 -- Nothing is asked of a writer but its contract; it was lent out, and left out' in it. The packet is read by the
 -- standard.
-use Rattle.std.specs.Prelude.{ℕ, ◌+◌, ◌<◌, ◌≡◌, List, take}
-use Rattle.def_refusals.specs.declared.Answer.TheVariants.{Done}
-use Rattle.def_refusals.specs.Answers.{shown, Listed}
+use Rattle.std.specs.Prelude.{ℕ, ◌+◌, ◌<◌, ◌≡◌, List, take, Ok}
+use Rattle.def_refusals.specs.Answers.{Listed}
 use Rattle.def_wire.specs.declared.Reading.{Reading}
 use Rattle.def_wire.specs.declared.Reading.TheVariants.{Standard}
 use Rattle.def_wire.specs.declared.Ranged.TheVariants.{Chunks, Times}
-use Rattle.def_wire.specs.declared.FieldsOr.TheVariants.{Shown}
-use Rattle.def_wire.specs.declared.TimeOr.TheVariants.{Time}
-use Rattle.def_wire.specs.declared.SummaryOr.TheVariants.{Stated}
 use Rattle.def_wire.specs.Bytes.{byte_at}
 use Rattle.def_wire.specs.Packet.{count_of}
 use Rattle.def_questions.specs.Packets.{fields_asked, numbers_asked, pairs_asked, entries_asked, time_asked, summary_asked}
@@ -21,24 +17,23 @@ use Rattle.def_jobs.specs.Shown.{Record, reported, received, clocked, echoed, su
 use Rattle.def_jobs.specs.Jobs.{Job, jobs_of, sender_of, asked_of}
 use Rattle.def_jobs.specs.Writing.{packet_of}
 use Rattle.written.specs.Shows.{record_at, blocks_in}
-use Rattle.xr.specs.declared.Parsed.TheVariants.{Packet}
 use Rattle.xr.specs.Parsed.{parsed_of}
 
 -- by its kind: `block::fields_in` and `numbers::numbers_in`; `fields_in` and `packet_receipt_time::pairs_in`;
 -- `block::time_in`; `dlrr::entries_in`; `summary::summary_in`. A record of no kind is never written
 abbrev pub Answered : Reading → List ℕ → ℕ → Record → Type 0
-Answered r s k (reported a f l) = (fields_asked r s k (Chunks a) ≡ Shown f) × (numbers_asked r s k a ≡ shown l)
-Answered r s k (received f l) = (fields_asked r s k Times ≡ Shown f) × (pairs_asked r s k ≡ shown l)
-Answered r s k (clocked t) = time_asked r s k ≡ Time t
-Answered r s k (echoed l) = entries_asked r s k ≡ shown l
-Answered r s k (summed x) = summary_asked r s k ≡ Stated x
+Answered r s k (reported a f l) = (fields_asked r s k (Chunks a) ≡ Ok f) × (numbers_asked r s k a ≡ Ok l)
+Answered r s k (received f l) = (fields_asked r s k Times ≡ Ok f) × (pairs_asked r s k ≡ Ok l)
+Answered r s k (clocked t) = time_asked r s k ≡ Ok t
+Answered r s k (echoed l) = entries_asked r s k ≡ Ok l
+Answered r s k (summed x) = summary_asked r s k ≡ Ok x
 Answered r s k bare = ⊥
 
 pub record ReadBack (js : List Job) (s : List ℕ) : Type 0 where
   -- `xr::count`: a block for each record but the first
-  pub counted : count_of Standard s ≡ Done (blocks_in js)
+  pub counted : count_of Standard s ≡ Ok (blocks_in js)
   -- `Xr::parse`: the same, and the first record's sender
-  pub parsed : parsed_of Standard s ≡ Packet (record { blocks = blocks_in js; ssrc = sender_of (record_at js 0) })
+  pub parsed : parsed_of Standard s ≡ Ok (record { blocks = blocks_in js; ssrc = sender_of (record_at js 0) })
   -- block k answers what record k + 1 asks
   pub answered : (k : ℕ) → k < blocks_in js → Answered Standard s k (asked_of (record_at js (k + 1)))
 
@@ -46,4 +41,4 @@ pub record ReadBack (js : List Job) (s : List ℕ) : Type 0 where
 abbrev pub RoundTrip : Type 0
 RoundTrip =
     (layout : Layout) (list out out' : List ℕ) (n : ℕ) → ((i : ℕ) → byte_at list i < 256)
-    → Listed (packet_of layout list) out (Done n) out' → ReadBack (jobs_of list) (take n out')
+    → Listed (packet_of layout list) out (Ok n) out' → ReadBack (jobs_of list) (take n out')

@@ -9,10 +9,10 @@ ghost use Rattle.range.specs.Inside.{inside_count};
 ghost use Rattle.def_cursor.specs.Cursor.{legal, steps_in, Stretched, StretchedIn};
 ghost use Rattle.cursor.specs.Steps.{moved_in, Gone, Advancing};
 
-use def_cursor::{Advanced, Cursor, Stretch};
-use def_refusals::{Checked, Refusal};
+use def_cursor::{Cursor, Stretch};
+use def_refusals::Refusal;
 use def_standard::Range;
-use def_wire::{Located, Reading, Rle};
+use def_wire::{Reading, Rle};
 
 // The word at an index of the words.
 fn word_at(bytes: &[u8], i: usize) -> u16
@@ -120,18 +120,24 @@ fn go(bytes: &[u8], g: Range, c: Cursor, budget: usize, out: &mut [u16]) -> Stre
 }
 
 // A stretch of the words in a range: 16, for budget 0 too; then 11, by the budget.
-fn advance_words(bytes: &[u8], g: Range, c: Cursor, budget: usize, out: &mut [u16]) -> Advanced
+fn advance_words(
+    bytes: &[u8],
+    g: Range,
+    c: Cursor,
+    budget: usize,
+    out: &mut [u16],
+) -> Result<Stretch, Refusal>
     requires { inside_count g ≤ circle }
     ensures { Advancing g (words16 bytes.now) c budget out.old result out.new }
 {
     let stands = is_legal(bytes, c);
     if !stands {
-        return Advanced::Stuck(Refusal::NoPlace);
+        return Err(Refusal::NoPlace);
     }
     if out.len() < budget {
-        return Advanced::Stuck(Refusal::NoRoom(budget, out.len()));
+        return Err(Refusal::NoRoom(budget, out.len()));
     }
-    Advanced::Moved(go(bytes, g, c, budget, out))
+    Ok(go(bytes, g, c, budget, out))
 }
 
 // Takes at most budget steps in a block, asked as type 1 or 2: 10, 7, 16, 11. It lists the stretch's numbers and
@@ -140,24 +146,31 @@ fn advance_words(bytes: &[u8], g: Range, c: Cursor, budget: usize, out: &mut [u1
 // the words that it reads and the numbers that it stores cost, whatever the budget (RULES, "Views, cursors and the
 // dump"; RFC 3611, 4.1). Port of: rle.rs RleSequenceIter; differs: a budget and a cursor in place of an iterator, and
 // the standard reading.
-pub fn advance(a: Rle, v: &[u8], c: Cursor, budget: usize, out: &mut [u16]) -> Advanced
+pub fn advance(
+    a: Rle,
+    v: &[u8],
+    c: Cursor,
+    budget: usize,
+    out: &mut [u16],
+) -> Result<Stretch, Refusal>
     ensures { Stretched a v.now c budget out.old result out.new }
 {
-    match block::check_chunks(Reading::Standard, a, v) {
-        Checked::Fine => {
-            let g = range::range_of(block::fields_at(v));
-            advance_words(utils::part(v, 12, v.len()), g, c, budget, out)
-        }
-        Checked::Unfit(x) => Advanced::Stuck(x),
-    }
+    block::check_chunks(Reading::Standard, a, v)?;
+    let g = range::range_of(block::fields_at(v));
+    advance_words(utils::part(v, 12, v.len()), g, c, budget, out)
 }
 
 // The same of block k of a packet: 1 to 6, 9, 10, 7, 16, 11.
-pub fn advance_in(s: &[u8], k: usize, a: Rle, c: Cursor, budget: usize, out: &mut [u16]) -> Advanced
+pub fn advance_in(
+    s: &[u8],
+    k: usize,
+    a: Rle,
+    c: Cursor,
+    budget: usize,
+    out: &mut [u16],
+) -> Result<Stretch, Refusal>
     ensures { StretchedIn s.now k a c budget out.old result out.new }
 {
-    match xr::locate(Reading::Standard, s, k) {
-        Located::At(at, n) => advance(a, utils::part(s, at, n), c, budget, out),
-        Located::Missing(x) => Advanced::Stuck(x),
-    }
+    let (at, n) = xr::locate(Reading::Standard, s, k)?;
+    advance(a, utils::part(s, at, n), c, budget, out)
 }

@@ -4,11 +4,10 @@
 --     step_of         the cursor after one step
 --     taken_by, after_steps, listed_by     the steps taken, the cursor and the numbers of a stretch of at most k steps
 --     advance_of      a call's answer: 16, then 11 by the budget
+use Rattle.std.specs.Prelude.{Ok, Err}
 use Rattle.std.specs.Prelude.{ℕ, zero, suc, ◌+◌, ◌-◌, min, ◌≡◌, Bool, false, cond, List, [], ◌∷◌, ◌++◌, length, get_or, drop, ltb, leb, eqb}
 use Rattle.def_refusals.specs.declared.Refusal.TheVariants.{NoPlace, NoRoom}
-use Rattle.def_refusals.specs.declared.Checked.{Checked}
-use Rattle.def_refusals.specs.declared.Checked.TheVariants.{Fine, Unfit}
-use Rattle.def_refusals.specs.Answers.{Or, shown, refused, then_check}
+use Rattle.def_refusals.specs.Answers.{Or, then_check}
 use Rattle.def_wire.specs.declared.Reading.TheVariants.{Standard}
 use Rattle.def_wire.specs.Packet.{view_of}
 use Rattle.def_wire.specs.declared.Rle.{Rle}
@@ -22,8 +21,6 @@ use Rattle.def_standard.specs.Standard.{is_listed, standard_words}
 use Rattle.def_questions.specs.ByNumber.{on_rle, not_served}
 use Rattle.def_cursor.specs.declared.Cursor.{Cursor}
 use Rattle.def_cursor.specs.declared.Stretch.{Stretch}
-use Rattle.def_cursor.specs.declared.Advanced.{Advanced}
-use Rattle.def_cursor.specs.declared.Advanced.TheVariants.{Moved, Stuck}
 
 abbrev pub cursor : ℕ → ℕ → ℕ → Cursor
 cursor i q p = record { word = i; place = q; position = p }
@@ -85,9 +82,9 @@ steps_left [] q = 0
 steps_left (w ∷ ws) q = (steps_in w - q) + steps_left ws 0
 
 -- 16, for budget 0 too; then 11, by the budget
-abbrev pub cursor_fault : List ℕ → Cursor → ℕ → ℕ → Checked
+abbrev pub cursor_fault : List ℕ → Cursor → ℕ → ℕ → Or (Unit {0})
 cursor_fault ws c budget room =
-    cond (legal ws c) (cond (leb budget room) Fine (Unfit (NoRoom budget room))) (Unfit NoPlace)
+    cond (legal ws c) (cond (leb budget room) (Ok tt) (Err (NoRoom budget room))) (Err NoPlace)
 
 abbrev pub stretch_of : Range → List ℕ → Cursor → ℕ → Stretch
 stretch_of g ws c budget = record {
@@ -98,21 +95,21 @@ stretch_of g ws c budget = record {
 }
 
 -- a call's answer, and what the lent list then holds, of words in a range
-abbrev pub advance_to : Checked → Stretch → Advanced
-advance_to Fine t = Moved t
-advance_to (Unfit x) t = Stuck x
+abbrev pub advance_to : Or (Unit {0}) → Stretch → Or Stretch
+advance_to (Ok _) t = Ok t
+advance_to (Err x) t = Err x
 
-abbrev pub left_to : Checked → List ℕ → List ℕ → List ℕ
-left_to Fine l out = l ++ drop (length l) out
-left_to (Unfit x) l out = out
+abbrev pub left_to : Or (Unit {0}) → List ℕ → List ℕ → List ℕ
+left_to (Ok _) l out = l ++ drop (length l) out
+left_to (Err x) l out = out
 
 -- the order of a cursor's refusals, of a block's view: 10, 7, then 16 and 11
-unfoldable pub advance_fault : Rle → List ℕ → Cursor → ℕ → ℕ → Checked
+unfoldable pub advance_fault : Rle → List ℕ → Cursor → ℕ → ℕ → Or (Unit {0})
 advance_fault a v c budget room = then_check (check_of Standard (Spans (Chunks a)) v)
     (cursor_fault (standard_words v) c budget room)
 
 -- a call's answer of a block's view v, asked as type 1 or 2
-unfoldable pub advance_of : Rle → List ℕ → Cursor → ℕ → ℕ → Advanced
+unfoldable pub advance_of : Rle → List ℕ → Cursor → ℕ → ℕ → Or Stretch
 advance_of a v c budget room =
     advance_to (advance_fault a v c budget room) (stretch_of (range_of (fields_at v)) (standard_words v) c budget)
 
@@ -122,34 +119,34 @@ stretch_filled a v c budget out =
     left_to (advance_fault a v c budget (length out)) (listed_by (range_of (fields_at v)) (standard_words v) budget c) out
 
 -- the contract of a cursor's call on a block's view
-pub record Stretched (a : Rle) (v : List ℕ) (c : Cursor) (budget : ℕ) (out : List ℕ) (r : Advanced) (out' : List ℕ)
+pub record Stretched (a : Rle) (v : List ℕ) (c : Cursor) (budget : ℕ) (out : List ℕ) (r : Or Stretch) (out' : List ℕ)
     : Type 0 where
   pub answer : r ≡ advance_of a v c budget (length out)
   pub filled : out' ≡ stretch_filled a v c budget out
 
 -- the same of a packet s and a block's index k: 1 to 6 and 9 first
-abbrev pub on_view_advanced : Or (List ℕ) → (List ℕ → Advanced) → Advanced
-on_view_advanced (shown v) f = f v
-on_view_advanced (refused x) f = Stuck x
+abbrev pub on_view_advanced : Or (List ℕ) → (List ℕ → Or Stretch) → Or Stretch
+on_view_advanced (Ok v) f = f v
+on_view_advanced (Err x) f = Err x
 
 abbrev pub on_view_filled : Or (List ℕ) → (List ℕ → List ℕ) → List ℕ → List ℕ
-on_view_filled (shown v) f out = f v
-on_view_filled (refused x) f out = out
+on_view_filled (Ok v) f out = f v
+on_view_filled (Err x) f out = out
 
-pub record StretchedIn (s : List ℕ) (k : ℕ) (a : Rle) (c : Cursor) (budget : ℕ) (out : List ℕ) (r : Advanced)
+pub record StretchedIn (s : List ℕ) (k : ℕ) (a : Rle) (c : Cursor) (budget : ℕ) (out : List ℕ) (r : Or Stretch)
     (out' : List ℕ)
     : Type 0 where
   pub answer : r ≡ on_view_advanced (view_of Standard s k) (λ v. advance_of a v c budget (length out))
   pub filled : out' ≡ on_view_filled (view_of Standard s k) (λ v. stretch_filled a v c budget out) out
 
 -- the same with the asked type by a number: one that is neither 1 nor 2 is 10 with the block's own type
-abbrev pub advance_by : ℕ → List ℕ → Cursor → ℕ → ℕ → Advanced
-advance_by t v c budget room = on_rle (rle_of t) (λ a. advance_of a v c budget room) (Stuck (not_served v))
+abbrev pub advance_by : ℕ → List ℕ → Cursor → ℕ → ℕ → Or Stretch
+advance_by t v c budget room = on_rle (rle_of t) (λ a. advance_of a v c budget room) (Err (not_served v))
 
 abbrev pub filled_by : ℕ → List ℕ → Cursor → ℕ → List ℕ → List ℕ
 filled_by t v c budget out = on_rle (rle_of t) (λ a. stretch_filled a v c budget out) out
 
-pub record StretchedBy (s : List ℕ) (k t : ℕ) (c : Cursor) (budget : ℕ) (out : List ℕ) (r : Advanced) (out' : List ℕ)
+pub record StretchedBy (s : List ℕ) (k t : ℕ) (c : Cursor) (budget : ℕ) (out : List ℕ) (r : Or Stretch) (out' : List ℕ)
     : Type 0 where
   pub answer : r ≡ on_view_advanced (view_of Standard s k) (λ v. advance_by t v c budget (length out))
   pub filled : out' ≡ on_view_filled (view_of Standard s k) (λ v. filled_by t v c budget out) out

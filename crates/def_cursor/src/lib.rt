@@ -1,8 +1,6 @@
 // The types of the standard number cursor. Definitions only: see specs/.
 #![tactic(auto)]
 
-use def_refusals::Refusal;
-
 // A place in a block's words: which word, which place of it, and the position that it stands for.
 #[derive(Clone, Copy)]
 pub struct Cursor {
@@ -18,10 +16,4 @@ pub struct Stretch {
     pub next: Cursor,
     pub taken: usize,
     pub listed: usize,
-}
-
-#[derive(Clone, Copy)]
-pub enum Advanced {
-    Moved(Stretch),
-    Stuck(Refusal),
 }

@@ -5,27 +5,18 @@
 --     block_text      a block: its line, and what it shows
 --     reading_text    one reading
 --     dump_text       the whole
-use Rattle.std.specs.Prelude.{ℕ, zero, suc, cond, List, [], ◌++◌, length, ltb, leb}
+use Rattle.std.specs.Prelude.{ℕ, zero, suc, cond, List, [], ◌++◌, length, ltb, leb, Option, Ok, Err, Some, None}
+use Rattle.def_wire.specs.declared.Summary.{Summary}
+use Rattle.def_wire.specs.declared.LongTime.{LongTime}
+use Rattle.def_wire.specs.declared.Fields.{Fields}
 use Rattle.def_refusals.specs.declared.Refusal.TheVariants.{NoRoom}
-use Rattle.def_refusals.specs.declared.Answer.{Answer}
-use Rattle.def_refusals.specs.declared.Answer.TheVariants.{Done, Refused}
-use Rattle.def_refusals.specs.declared.Checked.{Checked}
-use Rattle.def_refusals.specs.declared.Checked.TheVariants.{Fine, Unfit}
-use Rattle.def_refusals.specs.Answers.{Or, shown, refused}
+use Rattle.def_refusals.specs.Answers.{Or}
 use Rattle.def_wire.specs.declared.Reading.{Reading}
 use Rattle.def_wire.specs.declared.Reading.TheVariants.{Standard, Crate}
 use Rattle.def_wire.specs.declared.Ranged.{Ranged}
 use Rattle.def_wire.specs.declared.Ranged.TheVariants.{Chunks, Times}
 use Rattle.def_wire.specs.declared.Kind.{Kind}
 use Rattle.def_wire.specs.declared.Kind.TheVariants.{Spans, Clock, Echoes, Statistics}
-use Rattle.def_wire.specs.declared.KindOr.{KindOr}
-use Rattle.def_wire.specs.declared.KindOr.TheVariants.{AKind, NoKind}
-use Rattle.def_wire.specs.declared.FieldsOr.{FieldsOr}
-use Rattle.def_wire.specs.declared.FieldsOr.TheVariants.{Shown, NoneOf}
-use Rattle.def_wire.specs.declared.TimeOr.{TimeOr}
-use Rattle.def_wire.specs.declared.TimeOr.TheVariants.{Time, NoTime}
-use Rattle.def_wire.specs.declared.SummaryOr.{SummaryOr}
-use Rattle.def_wire.specs.declared.SummaryOr.TheVariants.{Stated, NoSummary}
 use Rattle.def_wire.specs.Packet.{place_of, view_from, count_of}
 use Rattle.def_wire.specs.Block.{type_of, block_length, kind_in, check_of, fields_of, time_of}
 use Rattle.def_wire.specs.Summary.{summary_of}
@@ -52,21 +43,21 @@ longest_dumped = 65536
 
 -- a list's line; `refused 11` in its place where it has more items than are shown
 unfoldable pub list_or : {A : Type 0} → (List A → List ℕ) → Or (List A) → List ℕ
-list_or line (shown l) = cond (leb (length l) most_shown) (line l) (refused_line (NoRoom (length l) most_shown))
-list_or line (refused x) = refused_line x
+list_or line (Ok l) = cond (leb (length l) most_shown) (line l) (refused_line (NoRoom (length l) most_shown))
+list_or line (Err x) = refused_line x
 
 -- the line of a block's fields; `refused 8` in its place
-abbrev pub fields_or : FieldsOr → List ℕ
-fields_or (Shown f) = fields_line f
-fields_or (NoneOf x) = refused_line x
+abbrev pub fields_or : Or Fields → List ℕ
+fields_or (Ok f) = fields_line f
+fields_or (Err x) = refused_line x
 
-abbrev pub time_or : TimeOr → List ℕ
-time_or (Time t) = time_line t.0
-time_or (NoTime x) = refused_line x
+abbrev pub time_or : Or LongTime → List ℕ
+time_or (Ok t) = time_line t.0
+time_or (Err x) = refused_line x
 
-abbrev pub summary_or : SummaryOr → List ℕ
-summary_or (Stated s) = summary_lines s
-summary_or (NoSummary x) = refused_line x
+abbrev pub summary_or : Or Summary → List ℕ
+summary_or (Ok s) = summary_lines s
+summary_or (Err x) = refused_line x
 
 -- the list of a block of types 1 to 3: numbers, or pairs
 abbrev pub ranged_list : Reading → Ranged → List ℕ → List ℕ
@@ -81,14 +72,14 @@ contents_of r Echoes v = list_or entries_line (entries_shown r v)
 contents_of r Statistics v = summary_or (summary_of r v)
 
 -- one `refused 7` in place of all this, where it is not
-abbrev pub unless_unfit : Checked → List ℕ → List ℕ
-unless_unfit Fine text = text
-unless_unfit (Unfit x) text = refused_line x
+abbrev pub unless_unfit : Or (Unit {0}) → List ℕ → List ℕ
+unless_unfit (Ok _) text = text
+unless_unfit (Err x) text = refused_line x
 
 -- of kinds that the reading does not know, type and length only
-abbrev pub kind_text : Reading → KindOr → List ℕ → List ℕ
-kind_text r (AKind k) v = unless_unfit (check_of r k v) (contents_of r k v)
-kind_text r NoKind v = []
+abbrev pub kind_text : Reading → Option Kind → List ℕ → List ℕ
+kind_text r (Some k) v = unless_unfit (check_of r k v) (contents_of r k v)
+kind_text r None v = []
 
 -- block k, of which v is the view: its line, and what stands behind it by its type
 unfoldable pub block_text : Reading → ℕ → List ℕ → List ℕ
@@ -100,9 +91,9 @@ blocks_text r s k zero = []
 blocks_text r s k (suc n) = block_text r k (view_from r s (place_of s k)) ++ blocks_text r s (suc k) n
 
 -- all the blocks; `refused N` alone, where the reading refuses the packet
-abbrev pub counted_text : Reading → List ℕ → Answer → List ℕ
-counted_text r s (Done n) = blocks_text r s 0 n
-counted_text r s (Refused x) = refused_line x
+abbrev pub counted_text : Reading → List ℕ → Or ℕ → List ℕ
+counted_text r s (Ok n) = blocks_text r s 0 n
+counted_text r s (Err x) = refused_line x
 
 unfoldable pub reading_text : Reading → List ℕ → List ℕ
 reading_text r s = counted_text r s (count_of r s)

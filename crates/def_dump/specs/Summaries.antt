@@ -1,12 +1,9 @@
 -- The lines of a summary (RULES, "Views, cursors and the dump" and "Packets in portions").
 --     summary_parts     its four texts, with something between them
 --     summary_lines     in the dump: four lines
-use Rattle.std.specs.Prelude.{ℕ, List, ◌++◌}
+use Rattle.std.specs.Prelude.{ℕ, List, ◌++◌, Option, Some, None}
+use Rattle.def_wire.specs.declared.Spread.{Spread}
 use Rattle.def_wire.specs.declared.ByteSpread.{ByteSpread}
-use Rattle.def_wire.specs.declared.CountOr.{CountOr}
-use Rattle.def_wire.specs.declared.CountOr.TheVariants.{Counted, Uncounted}
-use Rattle.def_wire.specs.declared.JitterOr.{JitterOr}
-use Rattle.def_wire.specs.declared.JitterOr.TheVariants.{Jitter, NoJitter}
 use Rattle.def_wire.specs.declared.HopsOr.{HopsOr}
 use Rattle.def_wire.specs.declared.HopsOr.TheVariants.{NoHops, Ttl, HopLimit, Unknown}
 use Rattle.def_wire.specs.declared.Summary.{Summary}
@@ -21,19 +18,19 @@ span_text s =
     labelled (ascii "ssrc") s.ssrc ++ labelled (ascii " begin") s.begin ++ labelled (ascii " end") s.end
 
 -- a number, or the word `absent` in its place
-abbrev pub count_text : CountOr → List ℕ
-count_text (Counted n) = spaced n
-count_text Uncounted = absent
+abbrev pub count_text : Option ℕ → List ℕ
+count_text (Some n) = spaced n
+count_text None = absent
 
 -- `lost N duplicates N`
 unfoldable pub counts_text : Summary → List ℕ
 counts_text s = ascii "lost" ++ count_text s.lost ++ ascii " duplicates" ++ count_text s.duplicates
 
 -- `jitter MIN MAX MEAN DEVIATION`, or `jitter absent`
-unfoldable pub jitter_text : JitterOr → List ℕ
-jitter_text (Jitter x) =
+unfoldable pub jitter_text : Option Spread → List ℕ
+jitter_text (Some x) =
     ascii "jitter" ++ spaced x.least ++ spaced x.most ++ spaced x.mean ++ spaced x.deviation
-jitter_text NoJitter = ascii "jitter" ++ absent
+jitter_text None = ascii "jitter" ++ absent
 
 -- `ttl MIN MAX MEAN DEVIATION`, `hops ..`; `ttl absent` where ToH is 0, `toh 3 absent` where it is 3
 abbrev pub four_text : ByteSpread → List ℕ

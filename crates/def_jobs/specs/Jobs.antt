@@ -3,16 +3,15 @@
 --     jobs_of        the records of a list
 --     jobs_fault     12, with the index of the first bad record
 --     asked_of       what a record asks to be shown
+use Rattle.std.specs.Prelude.{Option, Ok, Err, Some, None}
 use Rattle.std.specs.Prelude.{ℕ, zero, suc, ◌+◌, ◌*◌, ◌-◌, ◌%◌, Bool, false, cond, not, ◌&&◌, List, [], ◌∷◌, length, take, drop, leb, eqb}
+use Rattle.def_refusals.specs.Answers.{Or}
+use Rattle.def_wire.specs.declared.Kind.{Kind}
 use Rattle.def_refusals.specs.declared.Refusal.TheVariants.{BadRecord}
-use Rattle.def_refusals.specs.declared.Checked.{Checked}
-use Rattle.def_refusals.specs.declared.Checked.TheVariants.{Fine, Unfit}
 use Rattle.def_wire.specs.declared.Fields.{Fields}
 use Rattle.def_wire.specs.Bytes.{byte_at}
 use Rattle.def_wire.specs.declared.Ranged.TheVariants.{Chunks, Times}
 use Rattle.def_wire.specs.declared.Kind.TheVariants.{Spans, Clock, Echoes, Statistics}
-use Rattle.def_wire.specs.declared.KindOr.{KindOr}
-use Rattle.def_wire.specs.declared.KindOr.TheVariants.{AKind, NoKind}
 use Rattle.def_wire.specs.declared.Sums.{Sums}
 use Rattle.def_wire.specs.Block.{lost_run, has, kind_of}
 use Rattle.def_wire.specs.Summary.{spread, byte_spread, toh_in, summary_from}
@@ -127,13 +126,13 @@ abbrev pub has_sums : Job → Bool
 has_sums j = eqb (length j.body) 38 && (eqb (byte_at j.body 1) 0 && is_flags (job_flags j))
 
 -- a record's kind is the type number of the block that it asks for; no word may be a run of ones of no length
-abbrev pub is_body : KindOr → Job → Bool
-is_body (AKind (Spans (Chunks a))) j = has_fields j 2 && not (has lost_run (job_words j))
-is_body (AKind (Spans Times)) j = has_fields j 4
-is_body (AKind Clock) j = eqb (length j.body) 8
-is_body (AKind Echoes) j = eqb (length j.body % 12) 0
-is_body (AKind Statistics) j = has_sums j
-is_body NoKind j = false
+abbrev pub is_body : Option Kind → Job → Bool
+is_body (Some (Spans (Chunks a))) j = has_fields j 2 && not (has lost_run (job_words j))
+is_body (Some (Spans Times)) j = has_fields j 4
+is_body (Some Clock) j = eqb (length j.body) 8
+is_body (Some Echoes) j = eqb (length j.body % 12) 0
+is_body (Some Statistics) j = has_sums j
+is_body None j = false
 
 unfoldable pub is_block_job : Job → Bool
 is_block_job j = is_body (kind_of j.kind) j
@@ -143,18 +142,18 @@ is_good zero j = is_header_job j
 is_good (suc i) j = is_block_job j
 
 -- 12 with the index of the first bad record, from index i on
-unfoldable pub jobs_fault : ℕ → List Job → Checked
-jobs_fault i [] = Fine
-jobs_fault i (j ∷ js) = cond (is_good i j) (jobs_fault (suc i) js) (Unfit (BadRecord i))
+unfoldable pub jobs_fault : ℕ → List Job → Or (Unit {0})
+jobs_fault i [] = Ok tt
+jobs_fault i (j ∷ js) = cond (is_good i j) (jobs_fault (suc i) js) (Err (BadRecord i))
 
 -- what a record asks to be shown: the standard reading of its own words
-abbrev pub asked_as : KindOr → Job → Record
-asked_as (AKind (Spans (Chunks a))) j = reported a (job_fields j) (numbers_of (range_of (job_fields j)) (job_words j))
-asked_as (AKind (Spans Times)) j = received (job_fields j) (pairs_of (range_of (job_fields j)) (job_times j))
-asked_as (AKind Clock) j = clocked (record { 0 = le64 j.body 0 })
-asked_as (AKind Echoes) j = echoed (echoes_of (low32 j.body))
-asked_as (AKind Statistics) j = summed (summary_from (job_flags j) (job_sums j))
-asked_as NoKind j = bare
+abbrev pub asked_as : Option Kind → Job → Record
+asked_as (Some (Spans (Chunks a))) j = reported a (job_fields j) (numbers_of (range_of (job_fields j)) (job_words j))
+asked_as (Some (Spans Times)) j = received (job_fields j) (pairs_of (range_of (job_fields j)) (job_times j))
+asked_as (Some Clock) j = clocked (record { 0 = le64 j.body 0 })
+asked_as (Some Echoes) j = echoed (echoes_of (low32 j.body))
+asked_as (Some Statistics) j = summed (summary_from (job_flags j) (job_sums j))
+asked_as None j = bare
 
 unfoldable pub asked_of : Job → Record
 asked_of j = asked_as (kind_of j.kind) j

@@ -1,11 +1,11 @@
 -- The packet that a job list asks for, in the plain and in the careful layout (RULES, "Job lists and writing").
+use Rattle.std.specs.Prelude.{Option, Some, None}
 use Rattle.std.specs.Prelude.{ℕ, zero, suc, ◌+◌, ◌*◌, ◌-◌, ◌/◌, ◌%◌, Bool, cond, List, [], ◌∷◌, ◌++◌, length, get_or, replicate, eqb}
+use Rattle.def_wire.specs.declared.Kind.{Kind}
 use Rattle.def_wire.specs.declared.Fields.{Fields}
 use Rattle.def_wire.specs.Bytes.{two, four, eight}
 use Rattle.def_wire.specs.declared.Ranged.TheVariants.{Chunks, Times}
 use Rattle.def_wire.specs.declared.Kind.TheVariants.{Spans, Clock, Echoes, Statistics}
-use Rattle.def_wire.specs.declared.KindOr.{KindOr}
-use Rattle.def_wire.specs.declared.KindOr.TheVariants.{AKind, NoKind}
 use Rattle.def_wire.specs.declared.Sums.{Sums}
 use Rattle.def_wire.specs.Block.{rle_type, receipt_type, clock_type, echo_type, summary_type, kind_of}
 use Rattle.def_jobs.specs.declared.Layout.{Layout}
@@ -50,13 +50,13 @@ sums_bytes n =
     ++ (four n.jitter.least ++ (four n.jitter.most ++ (four n.jitter.mean ++ (four n.jitter.deviation
     ++ (n.hops.least ∷ n.hops.most ∷ n.hops.mean ∷ n.hops.deviation ∷ [])))))))))
 
-abbrev pub bytes_as : KindOr → Layout → Job → List ℕ
-bytes_as (AKind (Spans (Chunks a))) layout j = with_fields (rle_type a) (job_fields j) (words_bytes layout (job_words j))
-bytes_as (AKind (Spans Times)) layout j = with_fields receipt_type (job_fields j) (bytes_of four (job_times j))
-bytes_as (AKind Clock) layout j = head clock_type 0 8 ++ eight (le64 j.body 0)
-bytes_as (AKind Echoes) layout j = head echo_type 0 (length j.body) ++ bytes_of four (low32 j.body)
-bytes_as (AKind Statistics) layout j = head summary_type (job_flags j) 36 ++ sums_bytes (job_sums j)
-bytes_as NoKind layout j = []
+abbrev pub bytes_as : Option Kind → Layout → Job → List ℕ
+bytes_as (Some (Spans (Chunks a))) layout j = with_fields (rle_type a) (job_fields j) (words_bytes layout (job_words j))
+bytes_as (Some (Spans Times)) layout j = with_fields receipt_type (job_fields j) (bytes_of four (job_times j))
+bytes_as (Some Clock) layout j = head clock_type 0 8 ++ eight (le64 j.body 0)
+bytes_as (Some Echoes) layout j = head echo_type 0 (length j.body) ++ bytes_of four (low32 j.body)
+bytes_as (Some Statistics) layout j = head summary_type (job_flags j) 36 ++ sums_bytes (job_sums j)
+bytes_as None layout j = []
 
 unfoldable pub block_bytes : Layout → Job → List ℕ
 block_bytes layout j = bytes_as (kind_of j.kind) layout j

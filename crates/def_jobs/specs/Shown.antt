@@ -1,29 +1,19 @@
 -- All that a block shows, and when two blocks show the same: fields, numbers, times, entries and summaries; not chunk
 -- words (RULES, "Job lists and writing").
-use Rattle.std.specs.Prelude.{ℕ, Bool, true, false, ◌&&◌, List, [], ◌∷◌, ◌++◌, eqb}
-use Rattle.def_refusals.specs.Answers.{Or, shown, refused, on_shown}
+use Rattle.std.specs.Prelude.{ℕ, Bool, true, false, ◌&&◌, List, [], ◌∷◌, ◌++◌, eqb, Option, Ok, Err, Some, None}
+use Rattle.def_wire.specs.declared.Spread.{Spread}
+use Rattle.def_wire.specs.declared.Kind.{Kind}
+use Rattle.def_refusals.specs.Answers.{Or, on_shown}
 use Rattle.def_wire.specs.declared.Reading.{Reading}
 use Rattle.def_wire.specs.declared.Fields.{Fields}
-use Rattle.def_wire.specs.declared.FieldsOr.{FieldsOr}
-use Rattle.def_wire.specs.declared.FieldsOr.TheVariants.{Shown, NoneOf}
 use Rattle.def_wire.specs.declared.LongTime.{LongTime}
-use Rattle.def_wire.specs.declared.TimeOr.{TimeOr}
-use Rattle.def_wire.specs.declared.TimeOr.TheVariants.{Time, NoTime}
 use Rattle.def_wire.specs.declared.Rle.{Rle}
 use Rattle.def_wire.specs.declared.Ranged.TheVariants.{Chunks, Times}
 use Rattle.def_wire.specs.declared.Kind.TheVariants.{Spans, Clock, Echoes, Statistics}
-use Rattle.def_wire.specs.declared.KindOr.{KindOr}
-use Rattle.def_wire.specs.declared.KindOr.TheVariants.{AKind, NoKind}
 use Rattle.def_wire.specs.declared.ByteSpread.{ByteSpread}
-use Rattle.def_wire.specs.declared.CountOr.{CountOr}
-use Rattle.def_wire.specs.declared.CountOr.TheVariants.{Counted, Uncounted}
-use Rattle.def_wire.specs.declared.JitterOr.{JitterOr}
-use Rattle.def_wire.specs.declared.JitterOr.TheVariants.{Jitter, NoJitter}
 use Rattle.def_wire.specs.declared.HopsOr.{HopsOr}
 use Rattle.def_wire.specs.declared.HopsOr.TheVariants.{NoHops, Ttl, HopLimit, Unknown}
 use Rattle.def_wire.specs.declared.Summary.{Summary}
-use Rattle.def_wire.specs.declared.SummaryOr.{SummaryOr}
-use Rattle.def_wire.specs.declared.SummaryOr.TheVariants.{Stated, NoSummary}
 use Rattle.def_wire.specs.Block.{type_of, rle_type, receipt_type, clock_type, echo_type}
 use Rattle.def_wire.specs.Block.{summary_type, kind_in, fields_of, time_of}
 use Rattle.def_wire.specs.Summary.{summary_of}
@@ -46,31 +36,31 @@ pub data Record : Type 0 where
   -- any other: type and length only
   bare : Record
 
-abbrev pub on_fields : {A : Type 0} → FieldsOr → (Fields → Or A) → Or A
-on_fields (Shown f) g = g f
-on_fields (NoneOf x) g = refused x
+abbrev pub on_fields : {A : Type 0} → Or Fields → (Fields → Or A) → Or A
+on_fields (Ok f) g = g f
+on_fields (Err x) g = Err x
 
-abbrev pub on_time : {A : Type 0} → TimeOr → (LongTime → Or A) → Or A
-on_time (Time t) g = g t
-on_time (NoTime x) g = refused x
+abbrev pub on_time : {A : Type 0} → Or LongTime → (LongTime → Or A) → Or A
+on_time (Ok t) g = g t
+on_time (Err x) g = Err x
 
-abbrev pub on_summary : {A : Type 0} → SummaryOr → (Summary → Or A) → Or A
-on_summary (Stated s) g = g s
-on_summary (NoSummary x) g = refused x
+abbrev pub on_summary : {A : Type 0} → Or Summary → (Summary → Or A) → Or A
+on_summary (Ok s) g = g s
+on_summary (Err x) g = Err x
 
 abbrev pub report_shown : Reading → Rle → List ℕ → Or Record
-report_shown r a v = on_fields (fields_of r (Chunks a) v) (λ f. on_shown (numbers_shown r a v) (λ l. shown (reported a f l)))
+report_shown r a v = on_fields (fields_of r (Chunks a) v) (λ f. on_shown (numbers_shown r a v) (λ l. Ok (reported a f l)))
 
 abbrev pub receipt_shown : Reading → List ℕ → Or Record
-receipt_shown r v = on_fields (fields_of r Times v) (λ f. on_shown (pairs_shown r v) (λ l. shown (received f l)))
+receipt_shown r v = on_fields (fields_of r Times v) (λ f. on_shown (pairs_shown r v) (λ l. Ok (received f l)))
 
-abbrev pub record_as : KindOr → Reading → List ℕ → Or Record
-record_as (AKind (Spans (Chunks a))) r v = report_shown r a v
-record_as (AKind (Spans Times)) r v = receipt_shown r v
-record_as (AKind Clock) r v = on_time (time_of r v) (λ t. shown (clocked t))
-record_as (AKind Echoes) r v = on_shown (entries_shown r v) (λ l. shown (echoed l))
-record_as (AKind Statistics) r v = on_summary (summary_of r v) (λ s. shown (summed s))
-record_as NoKind r v = shown bare
+abbrev pub record_as : Option Kind → Reading → List ℕ → Or Record
+record_as (Some (Spans (Chunks a))) r v = report_shown r a v
+record_as (Some (Spans Times)) r v = receipt_shown r v
+record_as (Some Clock) r v = on_time (time_of r v) (λ t. Ok (clocked t))
+record_as (Some Echoes) r v = on_shown (entries_shown r v) (λ l. Ok (echoed l))
+record_as (Some Statistics) r v = on_summary (summary_of r v) (λ s. Ok (summed s))
+record_as None r v = Ok bare
 
 -- what the block with the view v shows, or why it is refused
 unfoldable pub record_of : Reading → List ℕ → Or Record
@@ -89,13 +79,13 @@ echo_row [] = []
 echo_row (x ∷ xs) = x.ssrc ∷ x.last.0 ∷ x.delay.0 ∷ echo_row xs
 
 -- an absent number is none, and no 0
-abbrev pub count_row : CountOr → List ℕ
-count_row (Counted n) = 1 ∷ n ∷ []
-count_row Uncounted = 0 ∷ []
+abbrev pub count_row : Option ℕ → List ℕ
+count_row (Some n) = 1 ∷ n ∷ []
+count_row None = 0 ∷ []
 
-abbrev pub jitter_row : JitterOr → List ℕ
-jitter_row (Jitter x) = 1 ∷ x.least ∷ x.most ∷ x.mean ∷ x.deviation ∷ []
-jitter_row NoJitter = 0 ∷ []
+abbrev pub jitter_row : Option Spread → List ℕ
+jitter_row (Some x) = 1 ∷ x.least ∷ x.most ∷ x.mean ∷ x.deviation ∷ []
+jitter_row None = 0 ∷ []
 
 -- ToH first
 abbrev pub four_row : ByteSpread → List ℕ

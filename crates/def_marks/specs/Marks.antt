@@ -5,11 +5,10 @@
 --     words_of       the words of all the marks
 --     marks_asked    these words, or 14 and 17 in that order; making them into a lent list is def_refusals'
 --                   `Listed (marks_asked ms)`, so 11 comes last
+use Rattle.std.specs.Prelude.{Ok, Err}
 use Rattle.std.specs.Prelude.{ℕ, zero, suc, ◌+◌, ◌*◌, ◌^◌, Bool, cond, List, [], ◌∷◌, length, get_or, drop, ltb, leb, eqb}
 use Rattle.def_refusals.specs.declared.Refusal.TheVariants.{TooMany, BadMark}
-use Rattle.def_refusals.specs.declared.Checked.{Checked}
-use Rattle.def_refusals.specs.declared.Checked.TheVariants.{Fine, Unfit}
-use Rattle.def_refusals.specs.Answers.{Or, shown, on_fine, then_check}
+use Rattle.def_refusals.specs.Answers.{Or, on_fine, then_check}
 
 -- the shortest run that is made, the longest, and the most marks
 abbrev pub shortest_run : ℕ
@@ -62,18 +61,18 @@ abbrev pub words_of : List ℕ → List ℕ
 words_of ms = words_from (length ms) ms
 
 -- 14 of so many marks
-abbrev pub count_fault : ℕ → Checked
-count_fault n = cond (ltb max_marks n) (Unfit (TooMany n max_marks)) Fine
+abbrev pub count_fault : ℕ → Or (Unit {0})
+count_fault n = cond (ltb max_marks n) (Err (TooMany n max_marks)) (Ok tt)
 
 -- 17 with the index of the first mark that is neither 0 nor 1, from index i on
-unfoldable pub bad_from : ℕ → List ℕ → Checked
-bad_from i [] = Fine
-bad_from i (m ∷ ms) = cond (leb m 1) (bad_from (suc i) ms) (Unfit (BadMark i))
+unfoldable pub bad_from : ℕ → List ℕ → Or (Unit {0})
+bad_from i [] = Ok tt
+bad_from i (m ∷ ms) = cond (leb m 1) (bad_from (suc i) ms) (Err (BadMark i))
 
 -- the order of the refusals: 14, 17
-unfoldable pub marks_fault : List ℕ → Checked
+unfoldable pub marks_fault : List ℕ → Or (Unit {0})
 marks_fault ms = then_check (count_fault (length ms)) (bad_from 0 ms)
 
 -- the words, or why the marks are refused
 unfoldable pub marks_asked : List ℕ → Or (List ℕ)
-marks_asked ms = on_fine (marks_fault ms) (shown (words_of ms))
+marks_asked ms = on_fine (marks_fault ms) (Ok (words_of ms))

@@ -5,18 +5,16 @@
 --     block_events     the events of one block, of its bytes so far
 --     block_then       one block and what comes behind it: it ends at a run of no length, 7
 --     course_of        the events of all bytes so far, and the refusal that they end with
+use Rattle.std.specs.Prelude.{Option, Ok, Err, Some, None}
 use Rattle.std.specs.Prelude.{ℕ, zero, suc, ◌+◌, ◌*◌, ◌-◌, Bool, true, false, cond, not, List, [], ◌∷◌, ◌++◌, map, length, take, drop, ltb, leb, eqb}
+use Rattle.def_wire.specs.declared.Kind.{Kind}
 use Rattle.def_refusals.specs.declared.Refusal.{Refusal}
 use Rattle.def_refusals.specs.declared.Refusal.TheVariants.{TooShort, WrongVersion, WrongPacketType, Padded}
 use Rattle.def_refusals.specs.declared.Refusal.TheVariants.{BlockTooLong}
-use Rattle.def_refusals.specs.declared.Checked.{Checked}
-use Rattle.def_refusals.specs.declared.Checked.TheVariants.{Fine, Unfit}
-use Rattle.def_refusals.specs.Answers.{then_check}
+use Rattle.def_refusals.specs.Answers.{then_check, Or}
 use Rattle.def_wire.specs.declared.Ranged.{Ranged}
 use Rattle.def_wire.specs.declared.Ranged.TheVariants.{Chunks, Times}
 use Rattle.def_wire.specs.declared.Kind.TheVariants.{Spans, Clock, Echoes, Statistics}
-use Rattle.def_wire.specs.declared.KindOr.{KindOr}
-use Rattle.def_wire.specs.declared.KindOr.TheVariants.{AKind, NoKind}
 use Rattle.def_wire.specs.Bytes.{byte_at}
 use Rattle.def_wire.specs.Packet.{version_of, is_padded, announced_of, ssrc_of, length_at, part}
 use Rattle.def_wire.specs.Block.{type_of, block_length, fields_at, words_at, time_at, kind_of, standard_rule, lost_run}
@@ -30,42 +28,42 @@ use Rattle.def_portions.specs.declared.Event.TheVariants.{Entry, Time, Summed, E
 -- the events of some bytes, and whether these bytes show a refusal, which ends them
 pub record Course : Type 0 where
   pub events : List Event
-  pub fault : Checked
+  pub fault : Or (Unit {0})
 
-abbrev pub course : List Event → Checked → Course
+abbrev pub course : List Event → Or (Unit {0}) → Course
 course es x = record { events = es; fault = x }
 
 -- nothing to show yet
 abbrev pub quiet : Course
-quiet = course [] Fine
+quiet = course [] (Ok tt)
 
 -- some events, and then a course
 abbrev pub then : List Event → Course → Course
 then es c = course (es ++ c.events) c.fault
 
 -- a course, where nothing refuses it
-abbrev pub unless : Checked → Course → Course
-unless Fine c = c
-unless (Unfit x) c = course [] (Unfit x)
+abbrev pub unless : Or (Unit {0}) → Course → Course
+unless (Ok _) c = c
+unless (Err x) c = course [] (Err x)
 
-abbrev pub need : Bool → Refusal → Checked
-need true x = Fine
-need false x = Unfit x
+abbrev pub need : Bool → Refusal → Or (Unit {0})
+need true x = Ok tt
+need false x = Err x
 
 -- the packet's first four bytes: 1, 2, 3, and in the place of 5, since padding is counted by the last byte, 18
-unfoldable pub head_fault : List ℕ → Checked
+unfoldable pub head_fault : List ℕ → Or (Unit {0})
 head_fault s =
     then_check (need (leb 8 (announced_of s)) (TooShort 8 (announced_of s)))
     (then_check (need (eqb (version_of s) 2) WrongVersion)
     (then_check (need (eqb (byte_at s 1) 207) WrongPacketType) (need (not (is_padded s)) Padded)))
 
 -- a type's length rule
-abbrev pub rule_of : KindOr → ℕ → Checked
-rule_of (AKind k) l = standard_rule k l
-rule_of NoKind l = Fine
+abbrev pub rule_of : Option Kind → ℕ → Or (Unit {0})
+rule_of (Some k) l = standard_rule k l
+rule_of None l = Ok tt
 
 -- a block's first four bytes, where so many bytes are left for blocks: 6, then 7
-unfoldable pub block_fault : ℕ → List ℕ → Checked
+unfoldable pub block_fault : ℕ → List ℕ → Or (Unit {0})
 block_fault left v =
     then_check (need (leb (block_length v) left) (BlockTooLong (block_length v) left))
     (rule_of (kind_of (type_of v)) (block_length v))
@@ -88,12 +86,12 @@ abbrev pub from : ℕ → List ℕ → List Event → List Event
 from n v es = cond (leb n (length v)) es []
 
 -- the events of a block whose bytes so far are v, at least four: by its kind
-unfoldable pub kind_events : KindOr → List ℕ → List Event
-kind_events (AKind (Spans g)) v = from 12 v (ranged_of v ∷ listed g v)
-kind_events (AKind Clock) v = start_of v ∷ from 12 v (Time (time_at v) ∷ [])
-kind_events (AKind Echoes) v = start_of v ∷ map Entry (entries_of v)
-kind_events (AKind Statistics) v = start_of v ∷ from 40 v (Summed (summary_at v) ∷ [])
-kind_events NoKind v = start_of v ∷ []
+unfoldable pub kind_events : Option Kind → List ℕ → List Event
+kind_events (Some (Spans g)) v = from 12 v (ranged_of v ∷ listed g v)
+kind_events (Some Clock) v = start_of v ∷ from 12 v (Time (time_at v) ∷ [])
+kind_events (Some Echoes) v = start_of v ∷ map Entry (entries_of v)
+kind_events (Some Statistics) v = start_of v ∷ from 40 v (Summed (summary_at v) ∷ [])
+kind_events None v = start_of v ∷ []
 
 abbrev pub block_events : List ℕ → List Event
 block_events v = kind_events (kind_of (type_of v)) v
@@ -104,21 +102,21 @@ clear_words [] = 0
 clear_words (w ∷ ws) = cond (eqb w lost_run) 0 (suc (clear_words ws))
 
 -- a block's bytes before that word: of types 1 and 2
-abbrev pub clear_part : KindOr → List ℕ → List ℕ
-clear_part (AKind (Spans (Chunks a))) v = take (12 + 2 * clear_words (words_at v)) v
-clear_part (AKind (Spans Times)) v = v
-clear_part (AKind Clock) v = v
-clear_part (AKind Echoes) v = v
-clear_part (AKind Statistics) v = v
-clear_part NoKind v = v
+abbrev pub clear_part : Option Kind → List ℕ → List ℕ
+clear_part (Some (Spans (Chunks a))) v = take (12 + 2 * clear_words (words_at v)) v
+clear_part (Some (Spans Times)) v = v
+clear_part (Some Clock) v = v
+clear_part (Some Echoes) v = v
+clear_part (Some Statistics) v = v
+clear_part None v = v
 
 -- 7, where that word has come
-abbrev pub lost_fault : KindOr → List ℕ → Checked
-lost_fault (AKind k) v = word_rule k (block_length v) v
-lost_fault NoKind v = Fine
+abbrev pub lost_fault : Option Kind → List ℕ → Or (Unit {0})
+lost_fault (Some k) v = word_rule k (block_length v) v
+lost_fault None v = Ok tt
 
 -- a block, of its bytes so far, and then a course
-unfoldable pub kind_then : KindOr → List ℕ → Course → Course
+unfoldable pub kind_then : Option Kind → List ℕ → Course → Course
 kind_then kd v c = then (kind_events kd (clear_part kd v)) (unless (lost_fault kd v) c)
 
 abbrev pub block_then : List ℕ → Course → Course
@@ -131,7 +129,7 @@ unfoldable pub blocks_from : List ℕ → ℕ → ℕ → ℕ → Course
 blocks_from s stop zero at = quiet
 blocks_from s stop (suc fuel) at =
     cond (ltb (length s) at) quiet
-    (cond (leb stop at) (course (End ∷ []) Fine)
+    (cond (leb stop at) (course (End ∷ []) (Ok tt))
     (cond (ltb (length s) (at + 4)) quiet
     (unless (block_fault (stop - at) (drop at s))
     (block_then (part s at (length_at s at)) (blocks_from s stop fuel (at + length_at s at))))))

@@ -3,24 +3,16 @@
 --     Reply          text lines, or `cut`
 --     line_in         a list's line in so much room, else the refusal's
 --     answer_to       the reply to a request
+use Rattle.std.specs.Prelude.{Ok, Err}
 use Rattle.std.specs.Prelude.{ℕ, zero, suc, ◌+◌, ◌*◌, ◌-◌, min, Bool, true, false, cond, List, [], ◌∷◌, ◌++◌, length, take, drop, leb, eqb}
+use Rattle.def_wire.specs.declared.Summary.{Summary}
+use Rattle.def_wire.specs.declared.LongTime.{LongTime}
+use Rattle.def_wire.specs.declared.Fields.{Fields}
 use Rattle.def_refusals.specs.declared.Refusal.TheVariants.{NoRoom}
-use Rattle.def_refusals.specs.declared.Answer.{Answer}
-use Rattle.def_refusals.specs.declared.Answer.TheVariants.{Done, Refused}
-use Rattle.def_refusals.specs.declared.Checked.{Checked}
-use Rattle.def_refusals.specs.declared.Checked.TheVariants.{Fine, Unfit}
-use Rattle.def_refusals.specs.Answers.{Or, shown, refused}
+use Rattle.def_refusals.specs.Answers.{Or}
 use Rattle.def_wire.specs.declared.Reading.{Reading}
 use Rattle.def_wire.specs.declared.Reading.TheVariants.{Standard, Crate}
-use Rattle.def_wire.specs.declared.Located.{Located}
-use Rattle.def_wire.specs.declared.Located.TheVariants.{At, Missing}
 use Rattle.def_wire.specs.declared.Rle.{Rle}
-use Rattle.def_wire.specs.declared.FieldsOr.{FieldsOr}
-use Rattle.def_wire.specs.declared.FieldsOr.TheVariants.{Shown, NoneOf}
-use Rattle.def_wire.specs.declared.TimeOr.{TimeOr}
-use Rattle.def_wire.specs.declared.TimeOr.TheVariants.{Time, NoTime}
-use Rattle.def_wire.specs.declared.SummaryOr.{SummaryOr}
-use Rattle.def_wire.specs.declared.SummaryOr.TheVariants.{Stated, NoSummary}
 use Rattle.def_wire.specs.Bytes.{byte_at}
 use Rattle.def_wire.specs.Packet.{count_of, ssrc_of, locate, part, view_of}
 use Rattle.def_wire.specs.Block.{header_data, fields_at, rle_of}
@@ -83,8 +75,8 @@ most_made = 8
 
 -- a list's line, where the room is enough for it; else 11 with the room needed and the room lent, or why there is none
 unfoldable pub line_in : {A : Type 0} → ℕ → (List A → List ℕ) → Or (List A) → List ℕ
-line_in room line (shown l) = cond (leb (length l) room) (line l) (refusal_line (NoRoom (length l) room))
-line_in room line (refused x) = refusal_line x
+line_in room line (Ok l) = cond (leb (length l) room) (line l) (refusal_line (NoRoom (length l) room))
+line_in room line (Err x) = refusal_line x
 
 -- 1: packet. What xrdump prints
 abbrev pub dump_reply : List ℕ → Reply
@@ -126,13 +118,13 @@ unfoldable pub numbers_reply : List ℕ → Reply
 numbers_reply p = at_least 10 p (at_most 1 (byte_at p 0) (told (numbers_text p)))
 
 -- 3: reading (1), block (4), asked type (1: 4 asks the time, any other byte the fields), packet
-abbrev pub fields_told : FieldsOr → List ℕ
-fields_told (Shown f) = fields_line f
-fields_told (NoneOf x) = refusal_line x
+abbrev pub fields_told : Or Fields → List ℕ
+fields_told (Ok f) = fields_line f
+fields_told (Err x) = refusal_line x
 
-abbrev pub time_told : TimeOr → List ℕ
-time_told (Time t) = time_line t.0
-time_told (NoTime x) = refusal_line x
+abbrev pub time_told : Or LongTime → List ℕ
+time_told (Ok t) = time_line t.0
+time_told (Err x) = refusal_line x
 
 unfoldable pub shown_text : List ℕ → List ℕ
 shown_text p =
@@ -144,9 +136,9 @@ shown_reply p = at_least 6 p (at_most 1 (byte_at p 0) (told (shown_text p)))
 
 -- 4: block (4), asked type (1), word (4), place (4), position (4), budget (4), room (4), packet. The steps taken and
 -- the next cursor, then the numbers that the steps list; of the standard reading
-abbrev pub stretch_told : Checked → Stretch → List ℕ → List ℕ
-stretch_told Fine t l = taken_line t.taken t.next ++ numbers_line l
-stretch_told (Unfit x) t l = refusal_line x
+abbrev pub stretch_told : Or (Unit {0}) → Stretch → List ℕ → List ℕ
+stretch_told (Ok _) t l = taken_line t.taken t.next ++ numbers_line l
+stretch_told (Err x) t l = refusal_line x
 
 unfoldable pub stretch_on : Rle → List ℕ → Cursor → ℕ → ℕ → List ℕ
 stretch_on a v c budget room =
@@ -154,8 +146,8 @@ stretch_on a v c budget room =
     (listed_by (range_of (fields_at v)) (standard_words v) budget c)
 
 abbrev pub on_view_text : Or (List ℕ) → (List ℕ → List ℕ) → List ℕ
-on_view_text (shown v) f = f v
-on_view_text (refused x) f = refusal_line x
+on_view_text (Ok v) f = f v
+on_view_text (Err x) f = refusal_line x
 
 unfoldable pub stretch_in : List ℕ → ℕ → ℕ → Cursor → ℕ → ℕ → List ℕ
 stretch_in s k t c budget room =
@@ -192,9 +184,9 @@ unfoldable pub made_reply : List ℕ → Reply
 made_reply p = cond (eqb (length p) 9) (at_most 3 (byte_at p 0) (told (made_text p))) cut
 
 -- 8: reading (1), packet. How many blocks it has, and who sent it
-abbrev pub blocks_told : List ℕ → Answer → List ℕ
-blocks_told s (Done n) = blocks_line n (ssrc_of s)
-blocks_told s (Refused x) = refusal_line x
+abbrev pub blocks_told : List ℕ → Or ℕ → List ℕ
+blocks_told s (Ok n) = blocks_line n (ssrc_of s)
+blocks_told s (Err x) = refusal_line x
 
 unfoldable pub parsed_text : List ℕ → List ℕ
 parsed_text p = blocks_told (drop 1 p) (count_of (reading_first p) (drop 1 p))
@@ -210,9 +202,9 @@ unfoldable pub marks_reply : List ℕ → Reply
 marks_reply p = at_least 4 p (told (marks_text p))
 
 -- 11: reading (1), block (4), packet. Where the block's view lies, how long it is, and its four header bytes
-abbrev pub view_told : List ℕ → Located → List ℕ
-view_told s (At at n) = view_line at n (header_data (part s at n))
-view_told s (Missing x) = refusal_line x
+abbrev pub view_told : List ℕ → Or (ℕ × ℕ) → List ℕ
+view_told s (Ok (at, n)) = view_line at n (header_data (part s at n))
+view_told s (Err x) = refusal_line x
 
 unfoldable pub view_text : List ℕ → List ℕ
 view_text p = view_told (drop 5 p) (locate (reading_first p) (drop 5 p) (le32 p 1))
@@ -226,9 +218,9 @@ unfoldable pub sizes_at : List ℕ → ℕ → ℕ → List ℕ
 sizes_at p at zero = []
 sizes_at p at (suc n) = le32 p at ∷ sizes_at p (at + 4) n
 
-abbrev pub ending_of : Checked → ℕ → ℕ → List ℕ
-ending_of Fine given events = given_line given events
-ending_of (Unfit x) given events = refusal_line x
+abbrev pub ending_of : Or (Unit {0}) → ℕ → ℕ → List ℕ
+ending_of (Ok _) given events = given_line given events
+ending_of (Err x) given events = refusal_line x
 
 abbrev pub call_told : Call → ℕ → List ℕ
 call_told c given = event_lines c.events ++ ending_of c.refusal given (length c.events)
@@ -253,9 +245,9 @@ unfoldable pub portions_reply : List ℕ → Reply
 portions_reply p = at_least 6 p (at_least (sizes_end p) p (told (portions_text p)))
 
 -- 13: block (4), packet. The four lines of a summary; of the standard reading
-abbrev pub summary_told : SummaryOr → List ℕ
-summary_told (Stated s) = summary_lines s
-summary_told (NoSummary x) = refusal_line x
+abbrev pub summary_told : Or Summary → List ℕ
+summary_told (Ok s) = summary_lines s
+summary_told (Err x) = refusal_line x
 
 unfoldable pub summary_text : List ℕ → List ℕ
 summary_text p = summary_told (summary_asked Standard (drop 4 p) (le32 p 0))

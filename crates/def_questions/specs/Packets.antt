@@ -1,15 +1,12 @@
 -- The same questions of a packet s and a block's index k: 1 to 6 and 9, then those of the block's view.
-use Rattle.std.specs.Prelude.{ℕ, List}
-use Rattle.def_refusals.specs.Answers.{Or, shown, refused, on_shown}
+use Rattle.std.specs.Prelude.{ℕ, List, Ok, Err}
+use Rattle.def_wire.specs.declared.Summary.{Summary}
+use Rattle.def_wire.specs.declared.LongTime.{LongTime}
+use Rattle.def_wire.specs.declared.Fields.{Fields}
+use Rattle.def_refusals.specs.Answers.{Or, on_shown}
 use Rattle.def_wire.specs.declared.Reading.{Reading}
 use Rattle.def_wire.specs.declared.Rle.{Rle}
 use Rattle.def_wire.specs.declared.Ranged.{Ranged}
-use Rattle.def_wire.specs.declared.FieldsOr.{FieldsOr}
-use Rattle.def_wire.specs.declared.FieldsOr.TheVariants.{NoneOf}
-use Rattle.def_wire.specs.declared.TimeOr.{TimeOr}
-use Rattle.def_wire.specs.declared.TimeOr.TheVariants.{NoTime}
-use Rattle.def_wire.specs.declared.SummaryOr.{SummaryOr}
-use Rattle.def_wire.specs.declared.SummaryOr.TheVariants.{NoSummary}
 use Rattle.def_wire.specs.Packet.{view_of}
 use Rattle.def_wire.specs.Block.{fields_of, time_of}
 use Rattle.def_wire.specs.Summary.{summary_of}
@@ -29,23 +26,23 @@ pairs_asked r s k = on_shown (view_of r s k) (pairs_shown r)
 unfoldable pub entries_asked : Reading → List ℕ → ℕ → Or (List Echo)
 entries_asked r s k = on_shown (view_of r s k) (entries_shown r)
 
-abbrev pub on_view_fields : Or (List ℕ) → (List ℕ → FieldsOr) → FieldsOr
-on_view_fields (shown v) f = f v
-on_view_fields (refused x) f = NoneOf x
+abbrev pub on_view_fields : Or (List ℕ) → (List ℕ → Or Fields) → Or Fields
+on_view_fields (Ok v) f = f v
+on_view_fields (Err x) f = Err x
 
-unfoldable pub fields_asked : Reading → List ℕ → ℕ → Ranged → FieldsOr
+unfoldable pub fields_asked : Reading → List ℕ → ℕ → Ranged → Or Fields
 fields_asked r s k g = on_view_fields (view_of r s k) (fields_of r g)
 
-abbrev pub on_view_time : Or (List ℕ) → (List ℕ → TimeOr) → TimeOr
-on_view_time (shown v) f = f v
-on_view_time (refused x) f = NoTime x
+abbrev pub on_view_time : Or (List ℕ) → (List ℕ → Or LongTime) → Or LongTime
+on_view_time (Ok v) f = f v
+on_view_time (Err x) f = Err x
 
-unfoldable pub time_asked : Reading → List ℕ → ℕ → TimeOr
+unfoldable pub time_asked : Reading → List ℕ → ℕ → Or LongTime
 time_asked r s k = on_view_time (view_of r s k) (time_of r)
 
-abbrev pub on_view_summary : Or (List ℕ) → (List ℕ → SummaryOr) → SummaryOr
-on_view_summary (shown v) f = f v
-on_view_summary (refused x) f = NoSummary x
+abbrev pub on_view_summary : Or (List ℕ) → (List ℕ → Or Summary) → Or Summary
+on_view_summary (Ok v) f = f v
+on_view_summary (Err x) f = Err x
 
-unfoldable pub summary_asked : Reading → List ℕ → ℕ → SummaryOr
+unfoldable pub summary_asked : Reading → List ℕ → ℕ → Or Summary
 summary_asked r s k = on_view_summary (view_of r s k) (summary_of r)

@@ -1,4 +1,5 @@
-// Why a question is refused, and the answer of a call that counts, lists or writes.
+// Why a question is refused. An answer is a Result: what is shown, a count (of blocks, of items listed, of bytes
+// written) or nothing but that all is fine, or else a Refusal.
 // Definitions only: specs/Numbers.antt gives each case RULES' number and its two values.
 #![tactic(auto)]
 
@@ -51,18 +52,4 @@ pub struct Numbered {
     pub number: u8,
     pub first: usize,
     pub second: usize,
-}
-
-// A count (of blocks, of items listed, of bytes written), or a refusal.
-#[derive(Clone, Copy)]
-pub enum Answer {
-    Done(usize),
-    Refused(Refusal),
-}
-
-// Whether something is fit to be read.
-#[derive(Clone, Copy)]
-pub enum Checked {
-    Fine,
-    Unfit(Refusal),
 }

@@ -5,14 +5,13 @@
 --     word_of        the word of a kind, with the faults of a word, 13
 --     word_bytes     its two bytes, or 13; making one chunk word is def_refusals' `Listed (word_bytes c)`, so 11 comes
 --                   after 13
+use Rattle.std.specs.Prelude.{Ok, Err}
 use Rattle.std.specs.Prelude.{ℕ, zero, suc, ◌+◌, ◌-◌, ◌/◌, ◌%◌, ◌^◌, cond, List, [], ◌∷◌, map, ltb, leb, eqb}
 use Rattle.def_refusals.specs.declared.Refusal.TheVariants.{ValueTooLarge}
-use Rattle.def_refusals.specs.Answers.{Or, shown, refused}
+use Rattle.def_refusals.specs.Answers.{Or}
 use Rattle.def_wire.specs.Bytes.{two}
 use Rattle.def_standard.specs.declared.Chunk.{Chunk}
 use Rattle.def_standard.specs.declared.Chunk.TheVariants.{Null, Skip, Run, Vector}
-use Rattle.def_standard.specs.declared.MadeWord.{MadeWord}
-use Rattle.def_standard.specs.declared.MadeWord.TheVariants.{Word, Unmade}
 
 -- top bit clear: a run, whose length is the low 14 bits; set: a vector of 15. The word 0 covers none, and so does 16384
 abbrev pub covers_of : ℕ → ℕ
@@ -38,19 +37,19 @@ chunk_of w =
     (cond (ltb w 32768) (Run (w - 16384)) (Vector (w - 32768))))
 
 -- the word w, where a value is at most its limit; else 13
-abbrev pub within : ℕ → ℕ → ℕ → MadeWord
-within value limit w = cond (leb value limit) (Word w) (Unmade (ValueTooLarge value))
+abbrev pub within : ℕ → ℕ → ℕ → Or ℕ
+within value limit w = cond (leb value limit) (Ok w) (Err (ValueTooLarge value))
 
 -- a run of ones of no length is no word to send: 13 with 0
-unfoldable pub word_of : Chunk → MadeWord
-word_of Null = Word 0
+unfoldable pub word_of : Chunk → Or ℕ
+word_of Null = Ok 0
 word_of (Skip n) = within n 16383 n
-word_of (Run n) = cond (eqb n 0) (Unmade (ValueTooLarge 0)) (within n 16383 (16384 + n))
+word_of (Run n) = cond (eqb n 0) (Err (ValueTooLarge 0)) (within n 16383 (16384 + n))
 word_of (Vector v) = within v 32767 (32768 + v)
 
-abbrev pub bytes_of_made : MadeWord → Or (List ℕ)
-bytes_of_made (Word w) = shown (two w)
-bytes_of_made (Unmade x) = refused x
+abbrev pub bytes_of_made : Or ℕ → Or (List ℕ)
+bytes_of_made (Ok w) = Ok (two w)
+bytes_of_made (Err x) = Err x
 
 abbrev pub word_bytes : Chunk → Or (List ℕ)
 word_bytes c = bytes_of_made (word_of c)

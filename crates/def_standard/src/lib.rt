@@ -1,7 +1,6 @@
 // The types that the definitions of the standard reading speak of. Definitions only: see specs/.
 #![tactic(auto)]
 
-use def_refusals::Refusal;
 use def_wire::{ReceiptTime, ShortTime};
 
 // A chunk word's kind (RFC 3611, 4.1.1 to 4.1.3). Port of: rle.rs RleChunk.
@@ -14,13 +13,6 @@ pub enum Chunk {
     Run(u32),
     // 15 bits, most significant first
     Vector(u32),
-}
-
-// A chunk word that was made, or 13.
-#[derive(Clone, Copy)]
-pub enum MadeWord {
-    Word(u16),
-    Unmade(Refusal),
 }
 
 // The sequence numbers that a block reports on.

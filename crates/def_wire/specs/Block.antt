@@ -10,11 +10,10 @@
 --     fitness       whether a block of a kind is fit to be read: refusal 7
 --     check_of       the block is of the asked kind (10) and fit to be read (7)
 --     fields_of, time_of     the answers to the questions for fields and time
+use Rattle.std.specs.Prelude.{Option, Ok, Err, Some, None}
 use Rattle.std.specs.Prelude.{ℕ, ◌+◌, ◌-◌, ◌%◌, Bool, true, false, cond, not, ◌||◌, List, [], ◌∷◌, length, drop, ltb, leb, eqb}
 use Rattle.def_refusals.specs.declared.Refusal.TheVariants.{OtherType, BadBlockLength, NoFields}
-use Rattle.def_refusals.specs.declared.Checked.{Checked}
-use Rattle.def_refusals.specs.declared.Checked.TheVariants.{Fine, Unfit}
-use Rattle.def_refusals.specs.Answers.{then_check}
+use Rattle.def_refusals.specs.Answers.{then_check, Or}
 use Rattle.def_wire.specs.declared.Reading.{Reading}
 use Rattle.def_wire.specs.declared.Reading.TheVariants.{Standard, Crate}
 use Rattle.def_wire.specs.declared.Rle.{Rle}
@@ -23,18 +22,8 @@ use Rattle.def_wire.specs.declared.Ranged.{Ranged}
 use Rattle.def_wire.specs.declared.Ranged.TheVariants.{Chunks, Times}
 use Rattle.def_wire.specs.declared.Kind.{Kind}
 use Rattle.def_wire.specs.declared.Kind.TheVariants.{Spans, Clock, Echoes, Statistics}
-use Rattle.def_wire.specs.declared.RleOr.{RleOr}
-use Rattle.def_wire.specs.declared.RleOr.TheVariants.{AnRle, NoRle}
-use Rattle.def_wire.specs.declared.RangedOr.{RangedOr}
-use Rattle.def_wire.specs.declared.RangedOr.TheVariants.{ARange, NoRange}
-use Rattle.def_wire.specs.declared.KindOr.{KindOr}
-use Rattle.def_wire.specs.declared.KindOr.TheVariants.{AKind, NoKind}
 use Rattle.def_wire.specs.declared.Fields.{Fields}
-use Rattle.def_wire.specs.declared.FieldsOr.{FieldsOr}
-use Rattle.def_wire.specs.declared.FieldsOr.TheVariants.{Shown, NoneOf}
 use Rattle.def_wire.specs.declared.LongTime.{LongTime}
-use Rattle.def_wire.specs.declared.TimeOr.{TimeOr}
-use Rattle.def_wire.specs.declared.TimeOr.TheVariants.{Time, NoTime}
 use Rattle.def_wire.specs.Bytes.{byte_at, be16, be32, be64, words16}
 use Rattle.def_wire.specs.Packet.{length_at}
 
@@ -99,42 +88,42 @@ kind_type Echoes = echo_type
 kind_type Statistics = summary_type
 
 -- the kind of a type number, where it has one
-unfoldable pub rle_of : ℕ → RleOr
-rle_of t = cond (eqb t loss_type) (AnRle Loss) (cond (eqb t duplicate_type) (AnRle Duplicate) NoRle)
+unfoldable pub rle_of : ℕ → Option Rle
+rle_of t = cond (eqb t loss_type) (Some Loss) (cond (eqb t duplicate_type) (Some Duplicate) None)
 
-abbrev pub or_times : ℕ → RleOr → RangedOr
-or_times t (AnRle a) = ARange (Chunks a)
-or_times t NoRle = cond (eqb t receipt_type) (ARange Times) NoRange
+abbrev pub or_times : ℕ → Option Rle → Option Ranged
+or_times t (Some a) = Some (Chunks a)
+or_times t None = cond (eqb t receipt_type) (Some Times) None
 
-unfoldable pub ranged_of : ℕ → RangedOr
+unfoldable pub ranged_of : ℕ → Option Ranged
 ranged_of t = or_times t (rle_of t)
 
-abbrev pub or_more : ℕ → RangedOr → KindOr
-or_more t (ARange g) = AKind (Spans g)
-or_more t NoRange =
-    cond (eqb t clock_type) (AKind Clock)
-    (cond (eqb t echo_type) (AKind Echoes)
-    (cond (eqb t summary_type) (AKind Statistics) NoKind))
+abbrev pub or_more : ℕ → Option Ranged → Option Kind
+or_more t (Some g) = Some (Spans g)
+or_more t None =
+    cond (eqb t clock_type) (Some Clock)
+    (cond (eqb t echo_type) (Some Echoes)
+    (cond (eqb t summary_type) (Some Statistics) None))
 
-unfoldable pub kind_of : ℕ → KindOr
+unfoldable pub kind_of : ℕ → Option Kind
 kind_of t = or_more t (ranged_of t)
 
 -- the kinds of which a reading shows more than type and length: the crate has no type 6
-abbrev pub known_to : Reading → KindOr → KindOr
+abbrev pub known_to : Reading → Option Kind → Option Kind
 known_to Standard kd = kd
-known_to Crate (AKind (Spans g)) = AKind (Spans g)
-known_to Crate (AKind Clock) = AKind Clock
-known_to Crate (AKind Echoes) = AKind Echoes
-known_to Crate (AKind Statistics) = NoKind
-known_to Crate NoKind = NoKind
+known_to Crate (Some (Spans g)) = Some (Spans g)
+known_to Crate (Some Clock) = Some Clock
+known_to Crate (Some Echoes) = Some Echoes
+known_to Crate (Some Statistics) = None
+known_to Crate None = None
 
-abbrev pub kind_in : Reading → ℕ → KindOr
+abbrev pub kind_in : Reading → ℕ → Option Kind
 kind_in r t = known_to r (kind_of t)
 
 -- a length rule: it holds, or refusal 7 with the expected and the actual length
-abbrev pub rule : Bool → ℕ → ℕ → Checked
-rule true expected actual = Fine
-rule false expected actual = Unfit (BadBlockLength expected actual)
+abbrev pub rule : Bool → ℕ → ℕ → Or (Unit {0})
+rule true expected actual = Ok tt
+rule false expected actual = Err (BadBlockLength expected actual)
 
 -- the least length from l on whose part behind the four header bytes is divisible by 12
 abbrev pub next_fit : ℕ → ℕ
@@ -142,7 +131,7 @@ next_fit l = l + (12 - (l - 4) % 12) % 12
 
 -- standard: types 1 to 3 need L ≥ 12, type 4 needs L = 12, type 5 needs L − 4 divisible by 12, type 6 needs L = 40
 -- (RULES, "Standard reading")
-unfoldable pub standard_rule : Kind → ℕ → Checked
+unfoldable pub standard_rule : Kind → ℕ → Or (Unit {0})
 standard_rule (Spans g) l = rule (leb 12 l) 12 l
 standard_rule Clock l = rule (eqb l 12) 12 l
 standard_rule Echoes l = rule (eqb ((l - 4) % 12) 0) (next_fit l) l
@@ -159,35 +148,35 @@ has w [] = false
 has w (x ∷ xs) = eqb x w || has w xs
 
 -- the words of a block of L bytes hold no such run, wherever they stand; else 7
-unfoldable pub clear_rule : ℕ → List ℕ → Checked
+unfoldable pub clear_rule : ℕ → List ℕ → Or (Unit {0})
 clear_rule l ws = rule (not (has lost_run ws)) 12 l
 
 -- standard, then: of types 1 and 2, the words
-abbrev pub word_rule : Kind → ℕ → List ℕ → Checked
+abbrev pub word_rule : Kind → ℕ → List ℕ → Or (Unit {0})
 word_rule (Spans (Chunks a)) l v = clear_rule l (words_at v)
-word_rule (Spans Times) l v = Fine
-word_rule Clock l v = Fine
-word_rule Echoes l v = Fine
-word_rule Statistics l v = Fine
+word_rule (Spans Times) l v = Ok tt
+word_rule Clock l v = Ok tt
+word_rule Echoes l v = Ok tt
+word_rule Statistics l v = Ok tt
 
 -- crate: types 1 and 2 need L ≥ 12, type 3 needs nothing, type 4 needs left ≥ 12, type 5 needs left ≥ 16 and then L
 -- divisible
 -- by 16; it has no question for type 6, so that is 10 with 6 (RULES, "Crate reading")
-unfoldable pub crate_rule : Kind → ℕ → ℕ → Checked
+unfoldable pub crate_rule : Kind → ℕ → ℕ → Or (Unit {0})
 crate_rule (Spans (Chunks a)) l left = rule (leb 12 l) 12 l
-crate_rule (Spans Times) l left = Fine
+crate_rule (Spans Times) l left = Ok tt
 crate_rule Clock l left = rule (leb 12 left) 12 left
 crate_rule Echoes l left = cond (leb 16 left) (rule (eqb (l % 16) 0) (l + l % 16) left) (rule false 16 left)
-crate_rule Statistics l left = Unfit (OtherType summary_type)
+crate_rule Statistics l left = Err (OtherType summary_type)
 
 -- whether the block v, asked as a kind, is fit to be read
-unfoldable pub fitness : Reading → Kind → List ℕ → Checked
+unfoldable pub fitness : Reading → Kind → List ℕ → Or (Unit {0})
 fitness Standard k v = then_check (standard_rule k (length v)) (word_rule k (length v) v)
 fitness Crate k v = crate_rule k (block_length v) (length v)
 
 -- 10, then 7
-unfoldable pub check_of : Reading → Kind → List ℕ → Checked
-check_of r k v = cond (eqb (type_of v) (kind_type k)) (fitness r k v) (Unfit (OtherType (type_of v)))
+unfoldable pub check_of : Reading → Kind → List ℕ → Or (Unit {0})
+check_of r k v = cond (eqb (type_of v) (kind_type k)) (fitness r k v) (Err (OtherType (type_of v)))
 
 -- the crate's fields of a type 3 block reach past the packet's end where less than 12 bytes are left: refusal 8
 abbrev pub is_cut : Reading → Ranged → ℕ → Bool
@@ -195,20 +184,20 @@ is_cut Standard g left = false
 is_cut Crate (Chunks a) left = false
 is_cut Crate Times left = ltb left 12
 
-abbrev pub on_checked_fields : Checked → FieldsOr → FieldsOr
-on_checked_fields Fine f = f
-on_checked_fields (Unfit x) f = NoneOf x
+abbrev pub on_checked_fields : Or (Unit {0}) → Or Fields → Or Fields
+on_checked_fields (Ok _) f = f
+on_checked_fields (Err x) f = Err x
 
-abbrev pub on_checked_time : Checked → LongTime → TimeOr
-on_checked_time Fine t = Time t
-on_checked_time (Unfit x) t = NoTime x
+abbrev pub on_checked_time : Or (Unit {0}) → LongTime → Or LongTime
+on_checked_time (Ok _) t = Ok t
+on_checked_time (Err x) t = Err x
 
 -- the fields of a block asked as one with a range: 10, 7, then 8
-unfoldable pub fields_of : Reading → Ranged → List ℕ → FieldsOr
+unfoldable pub fields_of : Reading → Ranged → List ℕ → Or Fields
 fields_of r g v =
-    on_checked_fields (check_of r (Spans g) v) (cond (is_cut r g (length v)) (NoneOf (NoFields (length v)))
-    (Shown (fields_at v)))
+    on_checked_fields (check_of r (Spans g) v) (cond (is_cut r g (length v)) (Err (NoFields (length v)))
+    (Ok (fields_at v)))
 
 -- the time of a block asked as type 4: 10, then 7
-unfoldable pub time_of : Reading → List ℕ → TimeOr
+unfoldable pub time_of : Reading → List ℕ → Or LongTime
 time_of r v = on_checked_time (check_of r Clock v) (time_at v)

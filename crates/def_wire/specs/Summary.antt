@@ -5,23 +5,17 @@
 --     summary_of      the answer to the question for a summary
 --     flags_of, sums_of     the flags and numbers of what is shown, 0 where one is absent: `summary_from` of these
 --                         is it again
+use Rattle.std.specs.Prelude.{Option, Ok, Err, Some, None}
 use Rattle.std.specs.Prelude.{ℕ, ◌+◌, ◌*◌, ◌/◌, ◌%◌, Bool, true, false, cond, List, eqb}
-use Rattle.def_refusals.specs.declared.Checked.{Checked}
-use Rattle.def_refusals.specs.declared.Checked.TheVariants.{Fine, Unfit}
+use Rattle.def_refusals.specs.Answers.{Or}
 use Rattle.def_wire.specs.declared.Reading.{Reading}
 use Rattle.def_wire.specs.declared.Kind.TheVariants.{Statistics}
 use Rattle.def_wire.specs.declared.Spread.{Spread}
 use Rattle.def_wire.specs.declared.ByteSpread.{ByteSpread}
 use Rattle.def_wire.specs.declared.Sums.{Sums}
-use Rattle.def_wire.specs.declared.CountOr.{CountOr}
-use Rattle.def_wire.specs.declared.CountOr.TheVariants.{Counted, Uncounted}
-use Rattle.def_wire.specs.declared.JitterOr.{JitterOr}
-use Rattle.def_wire.specs.declared.JitterOr.TheVariants.{Jitter, NoJitter}
 use Rattle.def_wire.specs.declared.HopsOr.{HopsOr}
 use Rattle.def_wire.specs.declared.HopsOr.TheVariants.{NoHops, Ttl, HopLimit, Unknown}
 use Rattle.def_wire.specs.declared.Summary.{Summary}
-use Rattle.def_wire.specs.declared.SummaryOr.{SummaryOr}
-use Rattle.def_wire.specs.declared.SummaryOr.TheVariants.{Stated, NoSummary}
 use Rattle.def_wire.specs.Bytes.{byte_at, be16, be32}
 use Rattle.def_wire.specs.Block.{specific_of, check_of}
 
@@ -50,13 +44,13 @@ is_set bit flags = eqb (flags / bit % 2) 1
 abbrev pub toh_in : ℕ → ℕ
 toh_in flags = flags / 8 % 4
 
-abbrev pub count_if : Bool → ℕ → CountOr
-count_if true n = Counted n
-count_if false n = Uncounted
+abbrev pub count_if : Bool → ℕ → Option ℕ
+count_if true n = Some n
+count_if false n = None
 
-abbrev pub jitter_if : Bool → Spread → JitterOr
-jitter_if true x = Jitter x
-jitter_if false x = NoJitter
+abbrev pub jitter_if : Bool → Spread → Option Spread
+jitter_if true x = Some x
+jitter_if false x = None
 
 abbrev pub hops_by : ℕ → ByteSpread → HopsOr
 hops_by toh x = cond (eqb toh 0) NoHops (cond (eqb toh 1) (Ttl x) (cond (eqb toh 2) (HopLimit x) Unknown))
@@ -75,23 +69,23 @@ summary_from flags n = record {
 abbrev pub summary_at : List ℕ → Summary
 summary_at v = summary_from (specific_of v) (sums_at v)
 
-abbrev pub on_checked_summary : Checked → Summary → SummaryOr
-on_checked_summary Fine s = Stated s
-on_checked_summary (Unfit x) s = NoSummary x
+abbrev pub on_checked_summary : Or (Unit {0}) → Summary → Or Summary
+on_checked_summary (Ok _) s = Ok s
+on_checked_summary (Err x) s = Err x
 
 -- of a block asked as type 6: 10, then 7; of the crate always 10
-unfoldable pub summary_of : Reading → List ℕ → SummaryOr
+unfoldable pub summary_of : Reading → List ℕ → Or Summary
 summary_of r v = on_checked_summary (check_of r Statistics v) (summary_at v)
 
 -- ---- the flags and the numbers of what is shown
 
-abbrev pub count_flag : ℕ → CountOr → ℕ
-count_flag bit (Counted n) = bit
-count_flag bit Uncounted = 0
+abbrev pub count_flag : ℕ → Option ℕ → ℕ
+count_flag bit (Some n) = bit
+count_flag bit None = 0
 
-abbrev pub jitter_flag : JitterOr → ℕ
-jitter_flag (Jitter x) = 32
-jitter_flag NoJitter = 0
+abbrev pub jitter_flag : Option Spread → ℕ
+jitter_flag (Some x) = 32
+jitter_flag None = 0
 
 -- ToH, 0 to 3
 abbrev pub toh_of : HopsOr → ℕ
@@ -103,13 +97,13 @@ toh_of Unknown = 3
 unfoldable pub flags_of : Summary → ℕ
 flags_of s = count_flag 128 s.lost + count_flag 64 s.duplicates + jitter_flag s.jitter + toh_of s.hops * 8
 
-abbrev pub given_of : CountOr → ℕ
-given_of (Counted n) = n
-given_of Uncounted = 0
+abbrev pub given_of : Option ℕ → ℕ
+given_of (Some n) = n
+given_of None = 0
 
-abbrev pub jitter_of : JitterOr → Spread
-jitter_of (Jitter x) = x
-jitter_of NoJitter = spread 0 0 0 0
+abbrev pub jitter_of : Option Spread → Spread
+jitter_of (Some x) = x
+jitter_of None = spread 0 0 0 0
 
 abbrev pub hops_of : HopsOr → ByteSpread
 hops_of NoHops = byte_spread 0 0 0 0

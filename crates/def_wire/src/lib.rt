@@ -1,8 +1,6 @@
 // The types that the definitions of the wire format speak of. Definitions only: see specs/.
 #![tactic(auto)]
 
-use def_refusals::Refusal;
-
 // Which of the two readings is asked.
 #[derive(Clone, Copy)]
 pub enum Reading {
@@ -10,13 +8,6 @@ pub enum Reading {
     Standard,
     // the xr module of the Rust crate rtcp-types 0.3.0
     Crate,
-}
-
-// Where a block's view lies in the packet: its first byte and how many bytes it has.
-#[derive(Clone, Copy)]
-pub enum Located {
-    At(usize, usize),
-    Missing(Refusal),
 }
 
 // Types 1 and 2, run-length chunk words (RFC 3611, 4.1 and 4.2): what numbers, chunk words and the cursor are asked of.
@@ -42,25 +33,6 @@ pub enum Kind {
     Statistics,
 }
 
-// What a number asks for, where it is the type number of one.
-#[derive(Clone, Copy)]
-pub enum RleOr {
-    AnRle(Rle),
-    NoRle,
-}
-
-#[derive(Clone, Copy)]
-pub enum RangedOr {
-    ARange(Ranged),
-    NoRange,
-}
-
-#[derive(Clone, Copy)]
-pub enum KindOr {
-    AKind(Kind),
-    NoKind,
-}
-
 // What blocks of types 1, 2 and 3 begin with (RFC 3611, 4.1 to 4.3).
 #[derive(Clone, Copy)]
 pub struct Fields {
@@ -68,12 +40,6 @@ pub struct Fields {
     pub begin: u16,
     pub end: u16,
     pub thinning: u8,
-}
-
-#[derive(Clone, Copy)]
-pub enum FieldsOr {
-    Shown(Fields),
-    NoneOf(Refusal),
 }
 
 // A clock time of 32 bits before and 32 after the point (RFC 3611, 4.4; RFC 3550, 4).
@@ -87,12 +53,6 @@ pub struct ShortTime(pub u32);
 // A time in the media stream's own clock (RFC 3611, 4.3).
 #[derive(Clone, Copy)]
 pub struct ReceiptTime(pub u32);
-
-#[derive(Clone, Copy)]
-pub enum TimeOr {
-    Time(LongTime),
-    NoTime(Refusal),
-}
 
 // Four numbers of a Statistics Summary block (RFC 3611, 4.6): of jitter, 32 bits each; of TTL or hop limit, a byte
 // each.
@@ -124,19 +84,6 @@ pub struct Sums {
     pub hops: ByteSpread,
 }
 
-// A number, or none where its flag is clear: which is another answer than 0.
-#[derive(Clone, Copy)]
-pub enum CountOr {
-    Counted(u32),
-    Uncounted,
-}
-
-#[derive(Clone, Copy)]
-pub enum JitterOr {
-    Jitter(Spread),
-    NoJitter,
-}
-
 // What the two bits ToH say: 0 no numbers, 1 of TTL, 2 of hop limit; 3 is no number of RFC 3611's, and has none.
 #[derive(Clone, Copy)]
 pub enum HopsOr {
@@ -152,14 +99,8 @@ pub struct Summary {
     pub ssrc: u32,
     pub begin: u16,
     pub end: u16,
-    pub lost: CountOr,
-    pub duplicates: CountOr,
-    pub jitter: JitterOr,
+    pub lost: Option<u32>,
+    pub duplicates: Option<u32>,
+    pub jitter: Option<Spread>,
     pub hops: HopsOr,
-}
-
-#[derive(Clone, Copy)]
-pub enum SummaryOr {
-    Stated(Summary),
-    NoSummary(Refusal),
 }

@@ -1,4 +1,5 @@
 -- The laws of `entries_of`, entry by entry, and of its listing calls.
+use Rattle.std.specs.Prelude.{Ok, Err}
 use Prim.Native.Nat.{ℕ, ◌+◌, ◌-◌, ◌/◌, ◌≤◌, ◌<◌}
 use mathlib.Core.Path.{◌≡◌, refl, ap, ◌∙◌}
 use mathlib.Core.List.{List, [], ◌∷◌, map}
@@ -6,14 +7,10 @@ use native.Mathlib.Omega.{arith}
 use lib.ListN.{length, drop, length-drop, length-map}
 use Rattle.def_refusals.specs.declared.Refusal.{Refusal}
 use Rattle.def_refusals.specs.declared.Refusal.TheVariants.{NoRoom}
-use Rattle.def_refusals.specs.declared.Answer.{Answer}
-use Rattle.def_refusals.specs.declared.Answer.TheVariants.{Done, Refused}
-use Rattle.def_refusals.specs.declared.Checked.TheVariants.{Fine, Unfit}
-use Rattle.def_refusals.specs.Answers.{Or, shown, refused, each}
+use Rattle.def_refusals.specs.Answers.{Or, each}
 use Rattle.laws.proofs.Answering.{answer-listed, answer-full, answer-refused, filled-listed, filled-full}
 use Rattle.laws.proofs.Answering.{filled-refused}
 use Rattle.def_wire.specs.declared.Reading.{Reading}
-use Rattle.def_wire.specs.declared.Located.TheVariants.{At, Missing}
 use Rattle.def_wire.specs.Packet.{locate, part}
 use Rattle.def_wire.specs.Bytes.{be32, words32}
 use Rattle.def_wire.specs.declared.Kind.TheVariants.{Echoes}
@@ -53,9 +50,9 @@ length-entries v =
 
 -- ---- the ways in which a listing call ends
 module _ (whole : Or (List Echo)) (ss ls ds : List ℕ) where
-  pub entries-listed : (l : List Echo) (n : ℕ) (ss' ls' ds' : List ℕ) → whole ≡ shown l → n ≡ length l
+  pub entries-listed : (l : List Echo) (n : ℕ) (ss' ls' ds' : List ℕ) → whole ≡ Ok l → n ≡ length l
       → n ≤ least3 ss ls ds → Stored l ss ls ds ss' ls' ds'
-      → ListedEntries whole ss ls ds (Done n) ss' ls' ds'
+      → ListedEntries whole ss ls ds (Ok n) ss' ls' ds'
   entries-listed l n ss' ls' ds' w e h s =
       let room : length l ≤ least3 ss ls ds = omega arith in
       record {
@@ -68,8 +65,8 @@ module _ (whole : Or (List Echo)) (ss ls ds : List ℕ) where
             (rw (length-map l delay_in) room) s.delays;
       }
 
-  pub entries-full : (l : List Echo) (n room : ℕ) → whole ≡ shown l → n ≡ length l → room ≡ least3 ss ls ds → room < n
-      → ListedEntries whole ss ls ds (Refused (NoRoom n room)) ss ls ds
+  pub entries-full : (l : List Echo) (n room : ℕ) → whole ≡ Ok l → n ≡ length l → room ≡ least3 ss ls ds → room < n
+      → ListedEntries whole ss ls ds (Err (NoRoom n room)) ss ls ds
   entries-full l n room w e k h =
       let short : least3 ss ls ds < length l = omega arith in
       record {
@@ -82,7 +79,7 @@ module _ (whole : Or (List Echo)) (ss ls ds : List ℕ) where
             (rw (length-map l delay_in) short);
       }
 
-  pub entries-refused : (x : Refusal) → whole ≡ refused x → ListedEntries whole ss ls ds (Refused x) ss ls ds
+  pub entries-refused : (x : Refusal) → whole ≡ Err x → ListedEntries whole ss ls ds (Err x) ss ls ds
   entries-refused x w =
       record {
         answer = answer-refused whole (least3 ss ls ds) x w;
@@ -92,26 +89,26 @@ module _ (whole : Or (List Echo)) (ss ls ds : List ℕ) where
       }
 
 -- ---- what is asked
-pub entries-fine : (r : Reading) (v : List ℕ) → check_of r Echoes v ≡ Fine → entries_shown r v ≡ shown (entries_of v)
+pub entries-fine : (r : Reading) (v : List ℕ) → check_of r Echoes v ≡ Ok tt → entries_shown r v ≡ Ok (entries_of v)
 unfolding entries_shown
 entries-fine r v e = rw e
 
-pub entries-unfit : (r : Reading) (v : List ℕ) (x : Refusal) → check_of r Echoes v ≡ Unfit x
-    → entries_shown r v ≡ refused x
+pub entries-unfit : (r : Reading) (v : List ℕ) (x : Refusal) → check_of r Echoes v ≡ Err x
+    → entries_shown r v ≡ Err x
 unfolding entries_shown
 entries-unfit r v x e = rw e
 
-pub entries-asked : (r : Reading) (s : List ℕ) (k at n : ℕ) → locate r s k ≡ At at n
+pub entries-asked : (r : Reading) (s : List ℕ) (k at n : ℕ) → locate r s k ≡ Ok (at, n)
     → entries_shown r (part s at n) ≡ entries_asked r s k
 unfolding entries_asked
 entries-asked r s k at n e = rw e
 
 -- a listing call's contract, of what is asked said otherwise
-pub entries-as : {whole asked : Or (List Echo)} {ss ls ds ss' ls' ds' : List ℕ} {a : Answer} → whole ≡ asked
+pub entries-as : {whole asked : Or (List Echo)} {ss ls ds ss' ls' ds' : List ℕ} {a : Or ℕ} → whole ≡ asked
     → ListedEntries whole ss ls ds a ss' ls' ds' → ListedEntries asked ss ls ds a ss' ls' ds'
 entries-as e l = rw (← e) l
 
-pub entries-missing : (r : Reading) (s : List ℕ) (k : ℕ) (x : Refusal) → locate r s k ≡ Missing x
-    → entries_asked r s k ≡ refused x
+pub entries-missing : (r : Reading) (s : List ℕ) (k : ℕ) (x : Refusal) → locate r s k ≡ Err x
+    → entries_asked r s k ≡ Err x
 unfolding entries_asked
 entries-missing r s k x e = rw e

@@ -15,31 +15,32 @@ use Rattle.dlrr.proofs.EntriesLaws.{echoes-cons, length-entries}
 abbrev pub rest_at : List ℕ → ℕ → List Echo
 rest_at v at = echoes_of (words32 (drop at v))
 
--- i entries are stored, the next one stands at `at`, and each list is filled so far
-pub record Storing (v ss₀ ls₀ ds₀ ss ls ds : List ℕ) (i at : ℕ) : Type 0 where
-  pub here : at ≡ 4 + 12 * i
-  pub ssrcs : Filling (map ssrc_in (entries_of v)) ss₀ ss (map ssrc_in (rest_at v at)) i
-  pub lasts : Filling (map last_in (entries_of v)) ls₀ ls (map last_in (rest_at v at)) i
-  pub delays : Filling (map delay_in (entries_of v)) ds₀ ds (map delay_in (rest_at v at)) i
+-- i entries are stored, and each list is filled so far
+pub record Storing (v ss₀ ls₀ ds₀ ss ls ds : List ℕ) (i : ℕ) : Type 0 where
+  pub ssrcs : Filling (map ssrc_in (entries_of v)) ss₀ ss (map ssrc_in (rest_at v (4 + 12 * i))) i
+  pub lasts : Filling (map last_in (entries_of v)) ls₀ ls (map last_in (rest_at v (4 + 12 * i))) i
+  pub delays : Filling (map delay_in (entries_of v)) ds₀ ds (map delay_in (rest_at v (4 + 12 * i))) i
 
 module _ (v ss₀ ls₀ ds₀ : List ℕ) (n : ℕ) (count : n ≡ length (entries_of v)) where
-  pub begun : n ≤ least3 ss₀ ls₀ ds₀ → Storing v ss₀ ls₀ ds₀ ss₀ ls₀ ds₀ 0 4
+  pub begun : n ≤ least3 ss₀ ls₀ ds₀ → Storing v ss₀ ls₀ ds₀ ss₀ ls₀ ds₀ 0
   begun h =
       record {
-        here = refl;
         ssrcs = start (rw (length-map (entries_of v) ssrc_in) (omega arith));
         lasts = start (rw (length-map (entries_of v) last_in) (omega arith));
         delays = start (rw (length-map (entries_of v) delay_in) (omega arith));
       }
 
-  module _ (ss ls ds : List ℕ) (i at : ℕ) (s : Storing v ss₀ ls₀ ds₀ ss ls ds i at) where
+  module _ (ss ls ds : List ℕ) (i : ℕ) (s : Storing v ss₀ ls₀ ds₀ ss ls ds i) where
+    abbrev at : ℕ
+    at = 4 + 12 * i
+
     -- the next entry is whole
     pub whole : i < n → at + 12 ≤ length v
-    whole h = omega (arith, s.here, length-entries v)
+    whole h = omega (arith, length-entries v)
 
     module _ (h : i < n) where
-      next : rest_at v at ≡ echo_at v at ∷ rest_at v (at + 12)
-      next = echoes-cons v at (whole h)
+      next : rest_at v at ≡ echo_at v at ∷ rest_at v (4 + 12 * (i + 1))
+      next = let e : 4 + 12 * (i + 1) ≡ at + 12 = omega arith in rw e (echoes-cons v at (whole h))
 
       pub room-ssrcs : i < length ss
       room-ssrcs = within (ap (map ssrc_in) next) s.ssrcs
@@ -52,11 +53,9 @@ module _ (v ss₀ ls₀ ds₀ : List ℕ) (n : ℕ) (count : n ≡ length (entri
 
       pub turned : (e : Echo) → e ≡ echo_at v at
           → Storing v ss₀ ls₀ ds₀ (set ss i e.ssrc) (set ls i e.last.0) (set ds i e.delay.0) (i + 1)
-          (at + 12)
       turned e k =
           rw k
           (record {
-            here = omega (arith, s.here);
             ssrcs = put (ap (map ssrc_in) next) s.ssrcs;
             lasts = put (ap (map last_in) next) s.lasts;
             delays = put (ap (map delay_in) next) s.delays;

@@ -9,9 +9,9 @@ ghost use Rattle.def_questions.specs.Questions.{entries_shown, ListedEntries, le
 ghost use Rattle.def_questions.specs.Packets.{entries_asked};
 ghost use Rattle.dlrr.specs.Entries.{echo_at, Stored};
 
-use def_refusals::{Answer, Checked, Refusal};
+use def_refusals::Refusal;
 use def_standard::Echo;
-use def_wire::{Located, Reading, ShortTime};
+use def_wire::{Reading, ShortTime};
 
 // The entry at a place.
 fn entry(v: &[u8], at: usize) -> Echo
@@ -42,17 +42,13 @@ fn store(v: &[u8], n: usize, ssrcs: &mut [u32], lasts: &mut [u32], delays: &mut 
     ensures { Stored (entries_of v.now) ssrcs.old lasts.old
         delays.old ssrcs.new lasts.new delays.new }
 {
-    let mut i: usize = 0;
-    let mut at: usize = 4;
-    while i < n {
-        let e = entry(v, at);
+    for i in 0..n {
+        let e = entry(v, 4 + 12 * i);
         let last = e.last;
         let delay = e.delay;
         ssrcs[i] = e.ssrc;
         lasts[i] = last.0;
         delays[i] = delay.0;
-        i += 1;
-        at += 12;
     }
 }
 
@@ -63,22 +59,18 @@ pub fn entries(
     ssrcs: &mut [u32],
     lasts: &mut [u32],
     delays: &mut [u32],
-) -> Answer
+) -> Result<usize, Refusal>
     ensures { ListedEntries (entries_shown r v.now) ssrcs.old lasts.old
         delays.old result ssrcs.new lasts.new delays.new }
 {
-    match block::check_echoes(r, v) {
-        Checked::Fine => {
-            let n = count(v);
-            let room = utils::lesser(utils::lesser(ssrcs.len(), lasts.len()), delays.len());
-            if room < n {
-                return Answer::Refused(Refusal::NoRoom(n, room));
-            }
-            store(v, n, ssrcs, lasts, delays);
-            Answer::Done(n)
-        }
-        Checked::Unfit(x) => Answer::Refused(x),
+    block::check_echoes(r, v)?;
+    let n = count(v);
+    let room = utils::lesser(utils::lesser(ssrcs.len(), lasts.len()), delays.len());
+    if room < n {
+        return Err(Refusal::NoRoom(n, room));
     }
+    store(v, n, ssrcs, lasts, delays);
+    Ok(n)
 }
 
 // The entries of block k of a packet: 1 to 6, 9, 10, 7, 11.
@@ -89,12 +81,10 @@ pub fn entries_in(
     ssrcs: &mut [u32],
     lasts: &mut [u32],
     delays: &mut [u32],
-) -> Answer
+) -> Result<usize, Refusal>
     ensures { ListedEntries (entries_asked r s.now k) ssrcs.old lasts.old
         delays.old result ssrcs.new lasts.new delays.new }
 {
-    match xr::locate(r, s, k) {
-        Located::At(at, n) => entries(r, utils::part(s, at, n), ssrcs, lasts, delays),
-        Located::Missing(x) => Answer::Refused(x),
-    }
+    let (at, n) = xr::locate(r, s, k)?;
+    entries(r, utils::part(s, at, n), ssrcs, lasts, delays)
 }

@@ -3,6 +3,7 @@
 --     line-of-block, kind-shown, kind-bare                           a block's line, and what stands behind it
 --     reading-blocks, reading-refused, dump-long, dump-both          one reading, and the whole
 --     place_after, blocks-next, blocks_end                           the blocks, one after the other
+use Rattle.std.specs.Prelude.{Option, Ok, Err, Some, None}
 use Prim.Native.Nat.{ℕ, suc, ◌+◌, ◌*◌, ◌-◌, ◌≤◌, ◌<◌}
 use mathlib.Core.Path.{◌≡◌, refl, sym, ap, ◌∙◌}
 use mathlib.Core.List.{List, [], ◌++◌, append-nil}
@@ -10,9 +11,8 @@ use native.Mathlib.Numerals.{add-one}
 use native.Mathlib.Omega.{arith}
 use lib.ListN.{length, get_or}
 use borrow.Author.Tests.{lt-ltb, le-ltb}
+use Rattle.def_refusals.specs.Answers.{Or}
 use Rattle.def_refusals.specs.declared.Refusal.{Refusal}
-use Rattle.def_refusals.specs.declared.Answer.{Answer}
-use Rattle.def_refusals.specs.declared.Answer.TheVariants.{Done, Refused}
 use Rattle.def_wire.specs.declared.Reading.{Reading}
 use Rattle.def_wire.specs.declared.Reading.TheVariants.{Standard, Crate}
 use Rattle.def_wire.specs.declared.Rle.{Rle}
@@ -20,8 +20,6 @@ use Rattle.def_wire.specs.declared.Ranged.{Ranged}
 use Rattle.def_wire.specs.declared.Ranged.TheVariants.{Chunks, Times}
 use Rattle.def_wire.specs.declared.Kind.{Kind}
 use Rattle.def_wire.specs.declared.Kind.TheVariants.{Spans, Clock, Echoes, Statistics}
-use Rattle.def_wire.specs.declared.KindOr.{KindOr}
-use Rattle.def_wire.specs.declared.KindOr.TheVariants.{AKind, NoKind}
 use Rattle.def_wire.specs.Packet.{place_of, length_at, next_place, view_from, count_of}
 use Rattle.def_wire.specs.Block.{header_data, type_of, block_length, kind_in, check_of, fields_of, time_of}
 use Rattle.def_wire.specs.Summary.{summary_of}
@@ -63,22 +61,22 @@ module _ (r : Reading) (v : List ℕ) where
     line-is : block_line i t l ≡ block_line i (type_of v) (block_length v)
     line-is = rw (et, el, e)
 
-    pub kind-shown : (o : KindOr) (k : Kind) → o ≡ AKind k → o ≡ kind_in r u
+    pub kind-shown : (o : Option Kind) (k : Kind) → o ≡ Some k → o ≡ kind_in r u
         → block_line i t l ++ unless_unfit (check_of r k v) (contents_of r k v) ≡ block_text r i v
     unfolding block_text
     kind-shown o k a b =
-        let f : kind_in r (type_of v) ≡ AKind k = (rw (eu, e) at (sym b)) ∙ a in
+        let f : kind_in r (type_of v) ≡ Some k = (rw (eu, e) at (sym b)) ∙ a in
         rw (line-is, f)
 
-    pub kind-bare : (o : KindOr) → o ≡ NoKind → o ≡ kind_in r u → block_line i t l ≡ block_text r i v
+    pub kind-bare : (o : Option Kind) → o ≡ None → o ≡ kind_in r u → block_line i t l ≡ block_text r i v
     unfolding block_text
     kind-bare o a b =
-        let f : kind_in r (type_of v) ≡ NoKind = (rw (eu, e) at (sym b)) ∙ a in
+        let f : kind_in r (type_of v) ≡ None = (rw (eu, e) at (sym b)) ∙ a in
         rw (line-is, f) (sym (append-nil (block_line i (type_of v) (block_length v))))
 
 -- from one block to the next, of a packet that is accepted with n blocks
 module _ (r : Reading) (s : List ℕ) (n k : ℕ) where
-  pub place_after : (at : ℕ) → count_of r s ≡ Done n → k < n → at ≡ place_of s k → next_place s at ≡ place_of s (k + 1)
+  pub place_after : (at : ℕ) → count_of r s ≡ Ok n → k < n → at ≡ place_of s k → next_place s at ≡ place_of s (k + 1)
   place_after at c h e =
       let w : place_of s k + length_at s (place_of s k) ≤ length s = counted-within r s n k (count-done r s n c) h in
       let i : place_of s k < length s = omega arith in
@@ -97,12 +95,12 @@ module _ (r : Reading) (s : List ℕ) (n k : ℕ) where
   blocks_end h = let j : n - k ≡ 0 = omega arith in rw j
 
 -- one reading, and the whole
-module _ (r : Reading) (s : List ℕ) (a : Answer) (e : a ≡ count_of r s) where
-  pub reading-blocks : (n : ℕ) → a ≡ Done n → blocks_text r s 0 n ≡ reading_text r s
+module _ (r : Reading) (s : List ℕ) (a : Or ℕ) (e : a ≡ count_of r s) where
+  pub reading-blocks : (n : ℕ) → a ≡ Ok n → blocks_text r s 0 n ≡ reading_text r s
   unfolding reading_text
   reading-blocks n d = ap (counted_text r s) (sym d ∙ e)
 
-  pub reading-refused : (x : Refusal) → a ≡ Refused x → refused_line x ≡ reading_text r s
+  pub reading-refused : (x : Refusal) → a ≡ Err x → refused_line x ≡ reading_text r s
   unfolding reading_text
   reading-refused x d = ap (counted_text r s) (sym d ∙ e)
 

@@ -1,4 +1,5 @@
 -- A list was filled into lent memory, or refused there: what its line is then.
+use Rattle.std.specs.Prelude.{Ok, Err}
 use Prim.Native.Nat.{ℕ, ◌≤◌, min}
 use mathlib.Core.Path.{◌≡◌, refl, sym, ap, ◌∙◌}
 use mathlib.Core.List.{List, [], ◌∷◌, ◌++◌, map}
@@ -10,9 +11,7 @@ use borrow.Author.Tests.{le-leb, leb-true}
 use Rattle.laws.proofs.Tests.{by-test}
 use Rattle.def_refusals.specs.declared.Refusal.{Refusal}
 use Rattle.def_refusals.specs.declared.Refusal.TheVariants.{NoRoom}
-use Rattle.def_refusals.specs.declared.Answer.{Answer}
-use Rattle.def_refusals.specs.declared.Answer.TheVariants.{Done, Refused}
-use Rattle.def_refusals.specs.Answers.{Or, shown, refused, each, answer_of, filled_of, Listed}
+use Rattle.def_refusals.specs.Answers.{Or, each, answer_of, filled_of, Listed}
 use Rattle.def_standard.specs.declared.Receipt.{Receipt}
 use Rattle.def_standard.specs.declared.Echo.{Echo}
 use Rattle.def_questions.specs.Questions.{ListedPairs, ListedEntries, least3}
@@ -23,18 +22,18 @@ use Rattle.def_dump.specs.Dump.{list_or, most_shown}
 -- what was listed: the items themselves, which fit, and as many as the answer says
 pub record Got {A : Type 0} (whole : Or (List A)) (room n : ℕ) : Type 0 where
   pub items : List A
-  pub is : whole ≡ shown items
+  pub is : whole ≡ Ok items
   pub count : n ≡ length items
   pub fits : length items ≤ room
 
 module _ {A : Type 0} where
-  pub got : (whole : Or (List A)) (room n : ℕ) → Done n ≡ answer_of whole room → Got whole room n
+  pub got : (whole : Or (List A)) (room n : ℕ) → Ok n ≡ answer_of whole room → Got whole room n
   unfolding answer_of
-  got (shown l) room n e =
+  got (Ok l) room n e =
       by-test (leb (length l) room)
       (λ t d. record { items = l; is = refl; count = cc; fits = leb-true _ _ t })
       (λ t d. absurd (let z : ◌≡◌ {A = ℕ} 0 1 = cc in omega arith)) (sym e)
-  got (refused x) room n e = absurd (let z : ◌≡◌ {A = ℕ} 0 1 = cc in omega arith)
+  got (Err x) room n e = absurd (let z : ◌≡◌ {A = ℕ} 0 1 = cc in omega arith)
 
   -- a list that was listed into no more room than items are shown
   pub line_of : (line : List A → List ℕ) (whole : Or (List A)) (room n : ℕ) (g : Got whole room n) → room ≤ most_shown
@@ -45,18 +44,18 @@ module _ {A : Type 0} where
       rw (g.is, le-leb _ _ k)
 
   -- one that was refused in as much room as items are shown
-  refused-of : (line : List A → List ℕ) (whole : Or (List A)) (x : Refusal) → Refused x ≡ answer_of whole most_shown
+  refused-of : (line : List A → List ℕ) (whole : Or (List A)) (x : Refusal) → Err x ≡ answer_of whole most_shown
       → refused_line x ≡ list_or line whole
   unfolding answer_of list_or
-  refused-of line (shown l) x e =
+  refused-of line (Ok l) x e =
       by-test (leb (length l) most_shown)
       (λ t d. absurd (let z : ◌≡◌ {A = ℕ} 0 1 = cc in omega arith))
       (λ t d. rw t (ap refused_line (let r : x ≡ NoRoom (length l) most_shown = cc in r))) (sym e)
-  refused-of line (refused y) x e = ap refused_line (let r : x ≡ y = cc in r)
+  refused-of line (Err y) x e = ap refused_line (let r : x ≡ y = cc in r)
 
 -- what stands at the front of a list that was filled
 front : (m : List ℕ) (room n : ℕ) (out out' : List ℕ) → n ≡ length m → length m ≤ room
-    → out' ≡ filled_of (shown m) room out → take n out' ≡ m
+    → out' ≡ filled_of (Ok m) room out → take n out' ≡ m
 unfolding filled_of
 front m room n out out' e h f =
     let k : out' ≡ m ++ drop (length m) out = f ∙ (rw (le-leb _ _ h)) in
@@ -70,8 +69,8 @@ part-front f whole room n g out out' e =
     front (map f g.items) room n out out' (g.count ∙ sym k) (omega (arith, g.fits))
     (e ∙ ap (λ (w : Or _). filled_of (each f w) room out) g.is)
 
-module _ {whole : Or (List ℕ)} {out out' : List ℕ} {r : Answer} where
-  pub numbers-shown : {n : ℕ} → r ≡ Done n → Listed whole out r out' → length out ≤ most_shown
+module _ {whole : Or (List ℕ)} {out out' : List ℕ} {r : Or ℕ} where
+  pub numbers-shown : {n : ℕ} → r ≡ Ok n → Listed whole out r out' → length out ≤ most_shown
       → numbers_line (take n out') ≡ list_or numbers_line whole
   numbers-shown {n} e d h =
       let g = got whole (length out) n (sym e ∙ d.answer) in
@@ -79,7 +78,7 @@ module _ {whole : Or (List ℕ)} {out out' : List ℕ} {r : Answer} where
       (d.filled ∙ ap (λ (w : Or (List ℕ)). filled_of w (length out) out) g.is))
       ∙ line_of numbers_line whole (length out) n g h
 
-  pub numbers-not-shown : {x : Refusal} → r ≡ Refused x → Listed whole out r out' → length out ≡ most_shown
+  pub numbers-not-shown : {x : Refusal} → r ≡ Err x → Listed whole out r out' → length out ≡ most_shown
       → refused_line x ≡ list_or numbers_line whole
   numbers-not-shown {x} e d h = refused-of numbers_line whole x (sym e ∙ d.answer ∙ ap (answer_of whole) h)
 
@@ -94,8 +93,8 @@ unfolding three_in_turn entry_numbers
 three-parts [] = refl
 three-parts (x ∷ l) = ap (λ (m : List ℕ). x.ssrc ∷ x.last.0 ∷ x.delay.0 ∷ m) (three-parts l)
 
-module _ {whole : Or (List Receipt)} {ns ts ns' ts' : List ℕ} {r : Answer} where
-  pub pairs-shown : {n : ℕ} → r ≡ Done n → ListedPairs whole ns ts r ns' ts' → min (length ns) (length ts) ≤ most_shown
+module _ {whole : Or (List Receipt)} {ns ts ns' ts' : List ℕ} {r : Or ℕ} where
+  pub pairs-shown : {n : ℕ} → r ≡ Ok n → ListedPairs whole ns ts r ns' ts' → min (length ns) (length ts) ≤ most_shown
       → list_line (ascii "pairs") (two_in_turn (take n ns') (take n ts')) ≡ list_or pairs_line whole
   pairs-shown {n} e d h =
       let room = min (length ns) (length ts) in
@@ -107,13 +106,13 @@ module _ {whole : Or (List Receipt)} {ns ts ns' ts' : List ℕ} {r : Answer} whe
       )) ∙ two-parts g.items)
       ∙ line_of pairs_line whole room n g h
 
-  pub pairs-not-shown : {x : Refusal} → r ≡ Refused x → ListedPairs whole ns ts r ns' ts' → min (length ns) (length ts)
+  pub pairs-not-shown : {x : Refusal} → r ≡ Err x → ListedPairs whole ns ts r ns' ts' → min (length ns) (length ts)
       ≡ most_shown
       → refused_line x ≡ list_or pairs_line whole
   pairs-not-shown {x} e d h = refused-of pairs_line whole x (sym e ∙ d.answer ∙ ap (answer_of whole) h)
 
-module _ {whole : Or (List Echo)} {ss ls ds ss' ls' ds' : List ℕ} {r : Answer} where
-  pub entries-shown : {n : ℕ} → r ≡ Done n → ListedEntries whole ss ls ds r ss' ls' ds' → least3 ss ls ds ≤ most_shown
+module _ {whole : Or (List Echo)} {ss ls ds ss' ls' ds' : List ℕ} {r : Or ℕ} where
+  pub entries-shown : {n : ℕ} → r ≡ Ok n → ListedEntries whole ss ls ds r ss' ls' ds' → least3 ss ls ds ≤ most_shown
       → list_line (ascii "entries") (three_in_turn (take n ss') (take n ls') (take n ds')) ≡ list_or entries_line whole
   entries-shown {n} e d h =
       let room = least3 ss ls ds in
@@ -126,7 +125,7 @@ module _ {whole : Or (List Echo)} {ss ls ds ss' ls' ds' : List ℕ} {r : Answer}
       )) ∙ three-parts g.items)
       ∙ line_of entries_line whole room n g h
 
-  pub entries-not-shown : {x : Refusal} → r ≡ Refused x → ListedEntries whole ss ls ds r ss' ls' ds' → least3 ss ls ds
+  pub entries-not-shown : {x : Refusal} → r ≡ Err x → ListedEntries whole ss ls ds r ss' ls' ds' → least3 ss ls ds
       ≡ most_shown
       → refused_line x ≡ list_or entries_line whole
   entries-not-shown {x} e d h = refused-of entries_line whole x (sym e ∙ d.answer ∙ ap (answer_of whole) h)

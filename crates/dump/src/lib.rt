@@ -14,8 +14,7 @@ ghost use Rattle.def_dump.specs.Lines.{numbers_line, pairs_line, entries_line};
 ghost use Rattle.def_dump.specs.Dump.{list_or, fields_or, time_or, contents_of, unless_unfit, block_text, blocks_text};
 ghost use Rattle.def_dump.specs.Dump.{summary_or, reading_text, dump_text};
 
-use def_refusals::{Answer, Checked};
-use def_wire::{FieldsOr, Kind, KindOr, Ranged, Reading, Rle, SummaryOr, TimeOr};
+use def_wire::{Kind, Ranged, Reading, Rle};
 
 // The longest packet that is dumped.
 const MAX_INPUT: usize = 65536;
@@ -31,8 +30,8 @@ fn fields_or(r: Reading, g: Ranged, v: &[u8], buf: &mut [u8], at: usize) -> usiz
     ensures { Added buf.old at (fields_or (fields_of r g v.now)) buf.new result }
 {
     match block::fields(r, g, v) {
-        FieldsOr::Shown(f) => lines::fields_line(buf, at, f),
-        FieldsOr::NoneOf(x) => lines::refused_line(buf, at, x),
+        Ok(f) => lines::fields_line(buf, at, f),
+        Err(x) => lines::refused_line(buf, at, x),
     }
 }
 
@@ -42,8 +41,8 @@ fn many_numbers(r: Reading, a: Rle, v: &[u8], buf: &mut [u8], at: usize) -> usiz
 {
     let mut list = [0u16; MOST];
     match numbers::numbers(r, a, v, &mut list) {
-        Answer::Done(n) => lines::numbers_line(buf, at, &list, n),
-        Answer::Refused(x) => lines::refused_line(buf, at, x),
+        Ok(n) => lines::numbers_line(buf, at, &list, n),
+        Err(x) => lines::refused_line(buf, at, x),
     }
 }
 
@@ -53,8 +52,8 @@ fn numbers_or(r: Reading, a: Rle, v: &[u8], buf: &mut [u8], at: usize) -> usize
 {
     let mut list = [0u16; FEW];
     match numbers::numbers(r, a, v, &mut list) {
-        Answer::Done(n) => lines::numbers_line(buf, at, &list, n),
-        Answer::Refused(_) => many_numbers(r, a, v, buf, at),
+        Ok(n) => lines::numbers_line(buf, at, &list, n),
+        Err(_) => many_numbers(r, a, v, buf, at),
     }
 }
 
@@ -65,8 +64,8 @@ fn many_pairs(r: Reading, v: &[u8], buf: &mut [u8], at: usize) -> usize
     let mut list = [0u16; MOST];
     let mut times = [0u32; MOST];
     match packet_receipt_time::pairs(r, v, &mut list, &mut times) {
-        Answer::Done(n) => lines::pairs_line(buf, at, &list, &times, n),
-        Answer::Refused(x) => lines::refused_line(buf, at, x),
+        Ok(n) => lines::pairs_line(buf, at, &list, &times, n),
+        Err(x) => lines::refused_line(buf, at, x),
     }
 }
 
@@ -77,8 +76,8 @@ fn pairs_or(r: Reading, v: &[u8], buf: &mut [u8], at: usize) -> usize
     let mut list = [0u16; FEW];
     let mut times = [0u32; FEW];
     match packet_receipt_time::pairs(r, v, &mut list, &mut times) {
-        Answer::Done(n) => lines::pairs_line(buf, at, &list, &times, n),
-        Answer::Refused(_) => many_pairs(r, v, buf, at),
+        Ok(n) => lines::pairs_line(buf, at, &list, &times, n),
+        Err(_) => many_pairs(r, v, buf, at),
     }
 }
 
@@ -86,8 +85,8 @@ fn time_or(r: Reading, v: &[u8], buf: &mut [u8], at: usize) -> usize
     ensures { Added buf.old at (time_or (time_of r v.now)) buf.new result }
 {
     match block::time(r, v) {
-        TimeOr::Time(t) => lines::time_line(buf, at, t.0),
-        TimeOr::NoTime(x) => lines::refused_line(buf, at, x),
+        Ok(t) => lines::time_line(buf, at, t.0),
+        Err(x) => lines::refused_line(buf, at, x),
     }
 }
 
@@ -99,8 +98,8 @@ fn many_entries(r: Reading, v: &[u8], buf: &mut [u8], at: usize) -> usize
     let mut b = [0u32; MOST];
     let mut c = [0u32; MOST];
     match dlrr::entries(r, v, &mut a, &mut b, &mut c) {
-        Answer::Done(n) => lines::entries_line(buf, at, &a, &b, &c, n),
-        Answer::Refused(x) => lines::refused_line(buf, at, x),
+        Ok(n) => lines::entries_line(buf, at, &a, &b, &c, n),
+        Err(x) => lines::refused_line(buf, at, x),
     }
 }
 
@@ -112,8 +111,8 @@ fn entries_or(r: Reading, v: &[u8], buf: &mut [u8], at: usize) -> usize
     let mut b = [0u32; FEW];
     let mut c = [0u32; FEW];
     match dlrr::entries(r, v, &mut a, &mut b, &mut c) {
-        Answer::Done(n) => lines::entries_line(buf, at, &a, &b, &c, n),
-        Answer::Refused(_) => many_entries(r, v, buf, at),
+        Ok(n) => lines::entries_line(buf, at, &a, &b, &c, n),
+        Err(_) => many_entries(r, v, buf, at),
     }
 }
 
@@ -121,8 +120,8 @@ fn summary_or(r: Reading, v: &[u8], buf: &mut [u8], at: usize) -> usize
     ensures { Added buf.old at (summary_or (summary_of r v.now)) buf.new result }
 {
     match summary::summary(r, v) {
-        SummaryOr::Stated(s) => summary_lines::summary_lines(buf, at, s),
-        SummaryOr::NoSummary(x) => lines::refused_line(buf, at, x),
+        Ok(s) => summary_lines::summary_lines(buf, at, s),
+        Err(x) => lines::refused_line(buf, at, x),
     }
 }
 
@@ -156,8 +155,8 @@ fn contents_or(r: Reading, k: Kind, v: &[u8], buf: &mut [u8], at: usize) -> usiz
         (unless_unfit (check_of r k v.now) (contents_of r k v.now)) buf.new result }
 {
     match block::check(r, k, v) {
-        Checked::Fine => contents(r, k, v, buf, at),
-        Checked::Unfit(x) => lines::refused_line(buf, at, x),
+        Ok(()) => contents(r, k, v, buf, at),
+        Err(x) => lines::refused_line(buf, at, x),
     }
 }
 
@@ -169,24 +168,22 @@ fn one_block(r: Reading, k: usize, v: &[u8], buf: &mut [u8], at: usize) -> usize
     let h = xr::header_data(v);
     let n = lines::block_line(buf, at, k, xr::block_type(h), xr::block_length(h));
     match records::kind_in(r, xr::block_type(h)) {
-        KindOr::AKind(kind) => contents_or(r, kind, v, buf, n),
-        KindOr::NoKind => n,
+        Some(kind) => contents_or(r, kind, v, buf, n),
+        None => n,
     }
 }
 
 // The blocks of an accepted packet, one after the other.
 fn blocks(r: Reading, packet: &[u8], count: usize, buf: &mut [u8], at: usize) -> usize
-    requires { count_of r packet.now ≡ Answer.Done count }
+    requires { count_of r packet.now ≡ Ok count }
     ensures { Added buf.old at (blocks_text r packet.now 0 count)
         buf.new result }
 {
-    let mut k: usize = 0;
     let mut place: usize = 8;
     let mut n = at;
-    while k < count {
+    for k in 0..count {
         n = one_block(r, k, reader::view_from(r, packet, place), buf, n);
         place = reader::moved_from(packet, place);
-        k += 1;
     }
     n
 }
@@ -196,8 +193,8 @@ fn one_reading(r: Reading, packet: &[u8], buf: &mut [u8], at: usize) -> usize
     ensures { Added buf.old at (reading_text r packet.now) buf.new result }
 {
     match xr::count(r, packet) {
-        Answer::Done(count) => blocks(r, packet, count, buf, at),
-        Answer::Refused(x) => lines::refused_line(buf, at, x),
+        Ok(count) => blocks(r, packet, count, buf, at),
+        Err(x) => lines::refused_line(buf, at, x),
     }
 }
 

@@ -6,10 +6,11 @@ use mathlib.Core.Path.{◌≡◌, refl, ap, ◌∙◌}
 use mathlib.Core.List.{List, [], ◌∷◌, ◌++◌}
 use native.Mathlib.Omega.{arith}
 use lib.ListN.{length, take, drop, get_or, length-take, length-drop}
+use lib.Seq.{get_or-take}
 use lib.Dec.{leb}
 use borrow.Author.Tests.{leb-true, leb-false}
 use Rattle.laws.proofs.Tests.{either}
-use Rattle.print.proofs.ListLaws.{taken_at, taken-end}
+use Rattle.print.proofs.ListLaws.{drop-next, drop_all}
 use Rattle.def_portions.specs.declared.Event.{Event}
 use Rattle.def_portions.specs.Lists.{room_in}
 use Rattle.def_dump.specs.EventLines.{event_line, event_lines}
@@ -29,6 +30,16 @@ below n a i h = (omega arith, omega arith)
 
 pub room_at : (n stop i : ℕ) (t u v w : List ℕ) → stop ≡ stop_at n t u v w → i < stop → i < room_in t u v w
 room_at n stop i t u v w e h = (below n (room_in t u v w) i (rw e at h)).1
+
+-- of one list, the items from i on
+module _ (n : ℕ) (l : List ℕ) (i : ℕ) where
+  taken_at : i < min n (length l) → drop i (take n l) ≡ get_or l i 0 ∷ drop (i + 1) (take n l)
+  taken_at h =
+      let k : i < length (take n l) = rw (length-take n l) h in
+      drop-next (take n l) i k ∙ (rw (get_or-take n l i 0 (omega arith)))
+
+  taken-end : min n (length l) ≤ i → drop i (take n l) ≡ []
+  taken-end h = drop_all (take n l) i (rw (length-take n l) h)
 
 -- where one list has ended, or the fourth has less than three numbers
 events-none : (l m w : List ℕ) → (events_of l [] m w ≡ []) × (events_of l m [] w ≡ [])

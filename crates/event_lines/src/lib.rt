@@ -135,10 +135,8 @@ pub fn event_lines(
         ),
     );
     let mut to = at;
-    let mut i: usize = 0;
-    while i < stop {
+    for i in 0..stop {
         to = event_line(buf, to, event_at(tags, numbers, values, sums, i));
-        i += 1;
     }
     to
 }

@@ -2,6 +2,7 @@
 --     event-header, ..             the event is of the kind that its tag says
 --     event-back                   an event in range is the one that its own parts are
 --     events-back, laid-back       so are all events that were laid into lists
+use Rattle.std.specs.Prelude.{Option, Some, None}
 use Prim.Native.Nat.{ℕ, suc, ◌+◌, ◌*◌, ◌/◌, ◌%◌, ◌^◌, ◌≤◌, ◌<◌}
 use mathlib.Core.Path.{◌≡◌, refl, sym, ap, ap₂, ◌∙◌}
 use mathlib.Core.List.{List, [], ◌∷◌, ◌++◌}
@@ -9,10 +10,7 @@ use native.Mathlib.Omega.{arith}
 use lib.ListN.{length}
 use lib.Arith.{digits_mod}
 use borrow.Author.Tests.{ne_eqb}
-use Rattle.def_wire.specs.declared.CountOr.{CountOr}
-use Rattle.def_wire.specs.declared.CountOr.TheVariants.{Counted, Uncounted}
-use Rattle.def_wire.specs.declared.JitterOr.{JitterOr}
-use Rattle.def_wire.specs.declared.JitterOr.TheVariants.{Jitter, NoJitter}
+use Rattle.def_wire.specs.declared.Spread.{Spread}
 use Rattle.def_wire.specs.declared.HopsOr.{HopsOr}
 use Rattle.def_wire.specs.declared.HopsOr.TheVariants.{NoHops, Ttl, HopLimit, Unknown}
 use Rattle.def_wire.specs.declared.Sums.{Sums}
@@ -127,13 +125,13 @@ halves-lower : (x y : ℕ) → y < 2 ^ 32 → lower (halves x y) ≡ y
 halves-lower x y k = omega arith
 
 -- what stands in the tag of a summary: its flags are a byte
-count_small : (bit : ℕ) (c : CountOr) → count_flag bit c ≤ bit
-count_small bit (Counted n) = omega arith
-count_small bit Uncounted = omega arith
+count_small : (bit : ℕ) (c : Option ℕ) → count_flag bit c ≤ bit
+count_small bit (Some n) = omega arith
+count_small bit None = omega arith
 
-jitter-small : (j : JitterOr) → jitter_flag j ≤ 32
-jitter-small (Jitter x) = omega arith
-jitter-small NoJitter = omega arith
+jitter-small : (j : Option Spread) → jitter_flag j ≤ 32
+jitter-small (Some x) = omega arith
+jitter-small None = omega arith
 
 toh-small : (h : HopsOr) → toh_of h ≤ 3
 toh-small NoHops = omega arith

@@ -1,5 +1,5 @@
 // Events in four lent lists side by side (RULES, "Packets in portions"): stored one by one, the numbers of a chunk word
-// at once, and read back.
+// at once, and read back. Four lists, and numbers for an event's kind: the C interface lends them so (xr_follow).
 #![tactic(auto)]
 
 ghost use Rattle.std.specs.Prelude.{◌≡◌, ◌∷◌, [], map, ◌+◌, ◌*◌, ◌-◌, ◌≤◌, ◌<◌, length, take};
@@ -113,11 +113,7 @@ pub fn put_tags(tags: &mut [u64], from: usize, to: usize)
     requires { (from ≤ to) × (to ≤ length tags.old) }
     ensures { tags.new ≡ sets tags.old from (number_tags (to - from)) }
 {
-    let mut n = from;
-    while n != to {
-        tags[n] = 4;
-        n += 1;
-    }
+    tags[from..to].fill(4);
 }
 
 // Stores the numbers of a word's ones, up to a place, and answers the index past them.

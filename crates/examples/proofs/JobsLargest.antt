@@ -1,4 +1,5 @@
 -- JobsLargest: not computed, since 262,144 bytes take long, but by the lengths of what is laid out.
+use Rattle.std.specs.Prelude.{Ok, Err}
 use Prim.Native.Nat.{ℕ, zero, suc, ◌+◌}
 use mathlib.Core.Path.{◌≡◌, refl, ◌∙◌, ap}
 use mathlib.Core.Bool.{true, false}
@@ -6,7 +7,6 @@ use mathlib.Core.List.{List, [], ◌∷◌, ◌++◌}
 use lib.ListN.{length, length-append, get_or}
 use native.Mathlib.Omega.{arith}
 use Rattle.def_refusals.specs.declared.Refusal.TheVariants.{TooMany, BadRecord}
-use Rattle.def_refusals.specs.declared.Checked.TheVariants.{Fine, Unfit}
 use Rattle.def_wire.specs.Bytes.{two}
 use Rattle.def_wire.specs.Block.{rle_of, ranged_of, kind_of, lost_run, has}
 use Rattle.def_jobs.specs.declared.Layout.TheVariants.{Plain, Careful}
@@ -56,20 +56,20 @@ length-laid (w ∷ ws) zs n e =
     omega (arith, h, e)
 
 -- the records are good: fields, and whole words; or not
-good-131062 : jobs_fault 0 (one_block 131062) ≡ Fine
+good-131062 : jobs_fault 0 (one_block 131062) ≡ Ok tt
 unfolding rle_of ranged_of kind_of is_header_job is_block_job jobs_fault
 good-131062 = let e : length (ones 131062) ≡ 262124 = length-ones 131062 in rw (e, clear-words 131062)
 
-good-131063 : jobs_fault 0 (one_block 131063) ≡ Fine
+good-131063 : jobs_fault 0 (one_block 131063) ≡ Ok tt
 unfolding rle_of ranged_of kind_of is_header_job is_block_job jobs_fault
 good-131063 = let e : length (ones 131063) ≡ 262126 = length-ones 131063 in rw (e, clear-words 131063)
 
-bad-131061 : jobs_fault 0 (lost-behind 131061) ≡ Unfit (BadRecord 1)
+bad-131061 : jobs_fault 0 (lost-behind 131061) ≡ Err (BadRecord 1)
 unfolding rle_of ranged_of kind_of is_header_job is_block_job jobs_fault
 bad-131061 =
     let e : length (ones 131061 ++ (0 ∷ 64 ∷ [])) ≡ 262124 = length-lost 131061 in rw (e, lost-words 131061)
 
-bad-131062 : jobs_fault 0 (lost-behind 131062) ≡ Unfit (BadRecord 1)
+bad-131062 : jobs_fault 0 (lost-behind 131062) ≡ Err (BadRecord 1)
 unfolding rle_of ranged_of kind_of is_header_job is_block_job jobs_fault
 bad-131062 =
     let e : length (ones 131062 ++ (0 ∷ 64 ∷ [])) ≡ 262126 = length-lost 131062 in rw (e, lost-words 131062)
@@ -101,9 +101,9 @@ words131062-hold =
       plain = of-any-list-hold.plain-within (one_block 131062) good-131062 refl (rw plain-131062);
       careful =
           of-any-list-hold.over Careful (one_block 131062) good-131062 refl (rw careful-131062)
-          ∙ ap (λ n. Unfit (TooMany n 262144)) careful-131062;
+          ∙ ap (λ n. Err (TooMany n 262144)) careful-131062;
       one_more =
           of-any-list-hold.over Plain (one_block 131063) good-131063 refl (rw plain-131063)
-          ∙ ap (λ n. Unfit (TooMany n 262144)) plain-131063;
+          ∙ ap (λ n. Err (TooMany n 262144)) plain-131063;
       lost-run = (rw bad-131061, rw bad-131061, rw bad-131062);
     }

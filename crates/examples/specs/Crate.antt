@@ -1,6 +1,5 @@
 -- Facts of def_crate: `xr_offset_sequence`, the start that moves, the crate reading's lists. RULES, "Crate reading".
-use Rattle.std.specs.Prelude.{ℕ, ◌≡◌, true, false, [], ◌∷◌, map, ltb}
-use Rattle.def_crate.specs.declared.Tried.TheVariants.{Passes, Fails}
+use Rattle.std.specs.Prelude.{ℕ, ◌≡◌, true, false, [], ◌∷◌, map, ltb, Some, None}
 use Rattle.def_crate.specs.Sequence.{doubled_of, sequence_of, passes, offset_sequence, moved_by}
 use Rattle.def_crate.specs.Crate.{while_from, Try, ones_in, try_at, tries_from, crate_numbers_from, crate_pairs_from}
 use Rattle.def_crate.specs.Crate.{crate_words, crate_numbers, crate_pairs}
@@ -25,9 +24,9 @@ pub record Sequence : Type 0 where
   pub end-at-start : map (passes 5 5) (5 ∷ 4 ∷ 6 ∷ 0 ∷ []) ≡ true ∷ true ∷ true ∷ true ∷ []
   -- the number where it passes: 10 to 14 by twos, and one past
   pub offset :
-      (offset_sequence 1 10 14 1 ≡ Passes 12) × (offset_sequence 2 10 14 1 ≡ Fails)
-      × (offset_sequence 3 65534 2 0 ≡ Passes 1)
-      × (offset_sequence 4 65534 2 0 ≡ Fails)
+      (offset_sequence 1 10 14 1 ≡ Some 12) × (offset_sequence 2 10 14 1 ≡ None)
+      × (offset_sequence 3 65534 2 0 ≡ Some 1)
+      × (offset_sequence 4 65534 2 0 ≡ None)
   -- after covered positions the start grows by 2^T times as many, wrapping
   pub moved :
       (moved_by 3 0 10 ≡ 13) × (moved_by 3 2 10 ≡ 22) × (moved_by 0 4 10 ≡ 10) × (moved_by 3 0 65534 ≡ 1)

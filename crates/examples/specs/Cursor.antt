@@ -1,11 +1,9 @@
 -- Facts of def_cursor: which cursors are legal, one step, a stretch of steps. RULES, "Views, cursors and the dump".
-use Rattle.std.specs.Prelude.{ℕ, ◌≡◌, true, false, List, [], ◌∷◌, map}
+use Rattle.std.specs.Prelude.{ℕ, ◌≡◌, true, false, List, [], ◌∷◌, map, Ok, Err}
 use Rattle.def_refusals.specs.declared.Refusal.TheVariants.{NoPlace, NoRoom}
-use Rattle.def_refusals.specs.declared.Checked.TheVariants.{Fine, Unfit}
 use Rattle.def_standard.specs.Range.{range_of}
 use Rattle.def_cursor.specs.declared.Cursor.{Cursor}
 use Rattle.def_cursor.specs.declared.Stretch.{Stretch}
-use Rattle.def_cursor.specs.declared.Advanced.TheVariants.{Moved, Stuck}
 use Rattle.def_cursor.specs.Cursor.{cursor, start, steps_in, word_at, legal, next_position, step_of, listed_at, taken_by}
 use Rattle.def_cursor.specs.Cursor.{after_steps, listed_by, steps_left, cursor_fault, stretch_of, advance_to, left_to}
 use Rattle.examples.specs.Rows.{fields}
@@ -121,14 +119,14 @@ pub record Steps : Type 0 where
 pub record Faults : Type 0 where
   -- 16, for budget 0 too, and before 11
   pub sixteen :
-      (cursor_fault five-words (place 0 2 0) 0 0 ≡ Unfit NoPlace)
-      × (cursor_fault five-words (place 0 2 0) 3 2 ≡ Unfit NoPlace)
+      (cursor_fault five-words (place 0 2 0) 0 0 ≡ Err NoPlace)
+      × (cursor_fault five-words (place 0 2 0) 3 2 ≡ Err NoPlace)
   -- 11 with the budget and the room: one less than the budget, the budget, and none for budget 0
   pub eleven :
-      (cursor_fault five-words start 3 2 ≡ Unfit (NoRoom 3 2)) × (cursor_fault five-words start 3 3 ≡ Fine)
-      × (cursor_fault five-words start 3 4 ≡ Fine) × (cursor_fault five-words start 0 0 ≡ Fine)
+      (cursor_fault five-words start 3 2 ≡ Err (NoRoom 3 2)) × (cursor_fault five-words start 3 3 ≡ Ok tt)
+      × (cursor_fault five-words start 3 4 ≡ Ok tt) × (cursor_fault five-words start 0 0 ≡ Ok tt)
   -- the room needed is the budget, even where fewer steps are left
-  pub by-the-budget : cursor_fault five-words (place 5 0 0) 3 2 ≡ Unfit (NoRoom 3 2)
+  pub by-the-budget : cursor_fault five-words (place 5 0 0) 3 2 ≡ Err (NoRoom 3 2)
   -- where it stands then, the steps that were taken, and how many numbers were listed
   pub a-stretch :
       (stretch_of (range 10 30 0) five-words start 7 ≡ stretch 4 1 5 7 3)
@@ -136,8 +134,8 @@ pub record Faults : Type 0 where
       × (stretch_of (range_of (fields 7 5 20 2)) five-words start 7 ≡ stretch 4 1 5 7 2)
       × (stretch_of (range_of (fields 7 5 8 2)) five-words start 7 ≡ stretch 4 1 5 7 0)
   pub answer :
-      (advance_to Fine (stretch 1 2 3 4 5) ≡ Moved (stretch 1 2 3 4 5))
-      × (advance_to (Unfit NoPlace) (stretch 1 2 3 4 5) ≡ Stuck NoPlace)
+      (advance_to (Ok tt) (stretch 1 2 3 4 5) ≡ Ok (stretch 1 2 3 4 5))
+      × (advance_to (Err NoPlace) (stretch 1 2 3 4 5) ≡ Err NoPlace)
   pub left_behind :
-      (left_to Fine (8 ∷ 9 ∷ []) (1 ∷ 2 ∷ 3 ∷ []) ≡ 8 ∷ 9 ∷ 3 ∷ [])
-      × (left_to (Unfit NoPlace) (8 ∷ 9 ∷ []) (1 ∷ 2 ∷ 3 ∷ []) ≡ 1 ∷ 2 ∷ 3 ∷ [])
+      (left_to (Ok tt) (8 ∷ 9 ∷ []) (1 ∷ 2 ∷ 3 ∷ []) ≡ 8 ∷ 9 ∷ 3 ∷ [])
+      × (left_to (Err NoPlace) (8 ∷ 9 ∷ []) (1 ∷ 2 ∷ 3 ∷ []) ≡ 1 ∷ 2 ∷ 3 ∷ [])

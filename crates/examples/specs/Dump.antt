@@ -1,7 +1,6 @@
 -- Facts of def_dump: each line, and dumps of whole packets (RULES, "Views, cursors and the dump").
-use Rattle.std.specs.Prelude.{ℕ, ◌≡◌, [], ◌∷◌, replicate}
+use Rattle.std.specs.Prelude.{ℕ, ◌≡◌, [], ◌∷◌, replicate, Ok, Err}
 use Rattle.def_refusals.specs.declared.Refusal.TheVariants.{WrongVersion, BlockTooLong, BadBlockLength}
-use Rattle.def_refusals.specs.Answers.{shown, refused}
 use Rattle.def_wire.specs.declared.Reading.TheVariants.{Standard, Crate}
 use Rattle.def_wire.specs.Block.{time_of}
 use Rattle.def_cursor.specs.Cursor.{cursor}
@@ -172,9 +171,9 @@ pub record Dumps : Type 0 where
       ≡ text_of ("reading standard" ∷ "refused 6" ∷ "reading crate" ∷ "block 0 type 0 length 8" ∷ [])
   -- 16,384 items of a list are shown, and one more is not; a list that is refused for another reason
   pub most-shown :
-      (list_or {A = ℕ} (λ l. 7 ∷ []) (shown (replicate 16384 0)) ≡ 7 ∷ [])
-      × (list_or {A = ℕ} (λ l. 7 ∷ []) (shown (replicate 16385 0)) ≡ text_of ("refused 11" ∷ []))
-      × (list_or {A = ℕ} (λ l. 7 ∷ []) (refused (BadBlockLength 12 8)) ≡ text_of ("refused 7" ∷ []))
+      (list_or {A = ℕ} (λ l. 7 ∷ []) (Ok (replicate 16384 0)) ≡ 7 ∷ [])
+      × (list_or {A = ℕ} (λ l. 7 ∷ []) (Ok (replicate 16385 0)) ≡ text_of ("refused 11" ∷ []))
+      × (list_or {A = ℕ} (λ l. 7 ∷ []) (Err (BadBlockLength 12 8)) ≡ text_of ("refused 7" ∷ []))
   -- 65,536 bytes are dumped, and one more is not
   pub longest :
       (dump_text (replicate 65536 0) ≡ text_of ("reading standard" ∷ "refused 2" ∷ "reading crate" ∷ "refused 2" ∷ []))

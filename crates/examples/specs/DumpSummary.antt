@@ -1,17 +1,13 @@
 -- Facts of def_dump for type 6: each line of a summary, with each number absent, the event's line, and dumps in both
 -- readings.
 -- RULES, "Views, cursors and the dump" and "Packets in portions".
-use Rattle.std.specs.Prelude.{ℕ, ◌+◌, ◌*◌, ◌≡◌, List, [], ◌∷◌, replicate}
+use Rattle.std.specs.Prelude.{ℕ, ◌+◌, ◌*◌, ◌≡◌, List, [], ◌∷◌, replicate, Option, Ok, Err, Some, None}
+use Rattle.def_wire.specs.declared.Spread.{Spread}
 use Rattle.def_refusals.specs.declared.Refusal.TheVariants.{BadBlockLength}
 use Rattle.def_wire.specs.declared.Reading.TheVariants.{Standard, Crate}
-use Rattle.def_wire.specs.declared.CountOr.{CountOr}
-use Rattle.def_wire.specs.declared.CountOr.TheVariants.{Counted, Uncounted}
-use Rattle.def_wire.specs.declared.JitterOr.{JitterOr}
-use Rattle.def_wire.specs.declared.JitterOr.TheVariants.{Jitter, NoJitter}
 use Rattle.def_wire.specs.declared.HopsOr.{HopsOr}
 use Rattle.def_wire.specs.declared.HopsOr.TheVariants.{NoHops, Ttl, HopLimit, Unknown}
 use Rattle.def_wire.specs.declared.Summary.{Summary}
-use Rattle.def_wire.specs.declared.SummaryOr.TheVariants.{Stated, NoSummary}
 use Rattle.def_wire.specs.Summary.{spread, byte_spread}
 use Rattle.def_text.specs.Numerals.{ascii}
 use Rattle.def_portions.specs.declared.Event.TheVariants.{Summed}
@@ -26,14 +22,14 @@ abbrev pub words_of : ℕ → List ℕ
 words_of flags =
     (0x06000009 + flags * 65536) ∷ 7 ∷ 0x000a000e ∷ 1 ∷ 2 ∷ 3 ∷ 4 ∷ 5 ∷ 6 ∷ 0x0708090a ∷ []
 
-abbrev pub that-shows : CountOr → CountOr → JitterOr → HopsOr → Summary
+abbrev pub that-shows : Option ℕ → Option ℕ → Option Spread → HopsOr → Summary
 that-shows l d j h = record { ssrc = 7; begin = 10; end = 14; lost = l; duplicates = d; jitter = j; hops = h }
 
 abbrev pub full : Summary
-full = that-shows (Counted 1) (Counted 2) (Jitter (spread 3 4 5 6)) (Ttl (byte_spread 7 8 9 10))
+full = that-shows (Some 1) (Some 2) (Some (spread 3 4 5 6)) (Ttl (byte_spread 7 8 9 10))
 
 abbrev pub empty : Summary
-empty = that-shows Uncounted Uncounted NoJitter NoHops
+empty = that-shows None None None NoHops
 
 pub record Lines : Type 0 where
   pub span :
@@ -42,21 +38,21 @@ pub record Lines : Type 0 where
         ssrc = 4294967295;
         begin = 65535;
         end = 0;
-        lost = Uncounted;
-        duplicates = Uncounted;
-        jitter = NoJitter;
+        lost = None;
+        duplicates = None;
+        jitter = None;
         hops = NoHops;
       }) ≡ ascii "ssrc 4294967295 begin 65535 end 0")
   -- both, one absent, the other, both; 0 is a number
   pub counts :
       (counts_text full ≡ ascii "lost 1 duplicates 2") × (counts_text empty ≡ ascii "lost absent duplicates absent")
-      × (counts_text (that-shows Uncounted (Counted 2) NoJitter NoHops) ≡ ascii "lost absent duplicates 2")
-      × (counts_text (that-shows (Counted 4294967295) Uncounted NoJitter NoHops)
+      × (counts_text (that-shows None (Some 2) None NoHops) ≡ ascii "lost absent duplicates 2")
+      × (counts_text (that-shows (Some 4294967295) None None NoHops)
       ≡ ascii "lost 4294967295 duplicates absent")
-      × (counts_text (that-shows (Counted 0) (Counted 0) NoJitter NoHops) ≡ ascii "lost 0 duplicates 0")
+      × (counts_text (that-shows (Some 0) (Some 0) None NoHops) ≡ ascii "lost 0 duplicates 0")
   pub of-jitter :
-      (jitter_text (Jitter (spread 3 4 5 6)) ≡ ascii "jitter 3 4 5 6") × (jitter_text NoJitter ≡ ascii "jitter absent")
-      × (jitter_text (Jitter (spread 0 0 0 0)) ≡ ascii "jitter 0 0 0 0")
+      (jitter_text (Some (spread 3 4 5 6)) ≡ ascii "jitter 3 4 5 6") × (jitter_text None ≡ ascii "jitter absent")
+      × (jitter_text (Some (spread 0 0 0 0)) ≡ ascii "jitter 0 0 0 0")
   pub of-hops :
       (hops_text (Ttl (byte_spread 7 8 9 10)) ≡ ascii "ttl 7 8 9 10")
       × (hops_text (HopLimit (byte_spread 7 8 9 10)) ≡ ascii "hops 7 8 9 10")
@@ -76,13 +72,13 @@ pub record Lines : Type 0 where
   pub event :
       (event_line (Summed full)
       ≡ text_of ("summary ssrc 7 begin 10 end 14; lost 1 duplicates 2; jitter 3 4 5 6; ttl 7 8 9 10" ∷ []))
-      × (event_line (Summed (that-shows Uncounted (Counted 2) NoJitter Unknown))
+      × (event_line (Summed (that-shows None (Some 2) None Unknown))
       ≡ text_of ("summary ssrc 7 begin 10 end 14; lost absent duplicates 2; jitter absent; toh 3 absent" ∷ []))
 
 pub record Dumps : Type 0 where
   pub stated :
-      (summary_or (Stated empty) ≡ summary_lines empty)
-      × (summary_or (NoSummary (BadBlockLength 40 36)) ≡ text_of ("refused 7" ∷ []))
+      (summary_or (Ok empty) ≡ summary_lines empty)
+      × (summary_or (Err (BadBlockLength 40 36)) ≡ text_of ("refused 7" ∷ []))
   -- behind its block's line, in the standard reading alone
   pub block :
       (block_text Standard 2 (rows (words_of 240))

@@ -1,9 +1,8 @@
 -- Facts of def_jobs' Jobs: the records of a list, 12 with the first bad one, and what a record asks.
 -- RULES, "Job lists and writing".
-use Rattle.std.specs.Prelude.{ℕ, ◌≡◌, Bool, true, false, List, [], ◌∷◌, ◌++◌, map, take, replicate}
+use Rattle.std.specs.Prelude.{ℕ, ◌≡◌, Bool, true, false, List, [], ◌∷◌, ◌++◌, map, take, replicate, Ok, Err}
+use Rattle.def_refusals.specs.Answers.{Or}
 use Rattle.def_refusals.specs.declared.Refusal.TheVariants.{BadRecord}
-use Rattle.def_refusals.specs.declared.Checked.{Checked}
-use Rattle.def_refusals.specs.declared.Checked.TheVariants.{Fine, Unfit}
 use Rattle.def_wire.specs.declared.Rle.TheVariants.{Loss, Duplicate}
 use Rattle.def_jobs.specs.Shown.{reported, received, clocked, echoed, bare}
 use Rattle.def_jobs.specs.Jobs.{le16, le32, le64, pair_low, low16, low32, Job, header_kind, cut_job, is_whole, job_at}
@@ -78,11 +77,11 @@ pub record HeaderRecord : Type 0 where
       ≡ true ∷ false ∷ false ∷ false ∷ []
 
 -- whether a body of so many zero bytes is one of the kind
-abbrev pub fits : ℕ → ℕ → Checked
+abbrev pub fits : ℕ → ℕ → Or (Unit {0})
 fits k n = jobs_fault 1 (of-kind k (replicate n 0) ∷ [])
 
-abbrev pub bad : Checked
-bad = Unfit (BadRecord 1)
+abbrev pub bad : Or (Unit {0})
+bad = Err (BadRecord 1)
 
 -- whether a record of a kind with these words is good
 abbrev pub with-words : ℕ → List ℕ → Bool
@@ -100,15 +99,15 @@ pub record BlockRecords : Type 0 where
       ≡ fields 0x01020304 0x1112 0x1314 0x1516
   -- kinds 1 and 2: 10 bytes and whole words
   pub words :
-      (map (fits 1) (0 ∷ 9 ∷ 10 ∷ 11 ∷ 12 ∷ 14 ∷ []) ≡ bad ∷ bad ∷ Fine ∷ bad ∷ Fine ∷ Fine ∷ [])
-      × (map (fits 2) (8 ∷ 9 ∷ 10 ∷ 11 ∷ 12 ∷ []) ≡ bad ∷ bad ∷ Fine ∷ bad ∷ Fine ∷ [])
+      (map (fits 1) (0 ∷ 9 ∷ 10 ∷ 11 ∷ 12 ∷ 14 ∷ []) ≡ bad ∷ bad ∷ (Ok tt) ∷ bad ∷ (Ok tt) ∷ (Ok tt) ∷ [])
+      × (map (fits 2) (8 ∷ 9 ∷ 10 ∷ 11 ∷ 12 ∷ []) ≡ bad ∷ bad ∷ (Ok tt) ∷ bad ∷ (Ok tt) ∷ [])
   -- kind 3: 10 bytes and whole times
   pub times :
-      map (fits 3) (6 ∷ 9 ∷ 10 ∷ 11 ∷ 12 ∷ 13 ∷ 14 ∷ 18 ∷ []) ≡ bad ∷ bad ∷ Fine ∷ bad ∷ bad ∷ bad ∷ Fine ∷ Fine ∷ []
+      map (fits 3) (6 ∷ 9 ∷ 10 ∷ 11 ∷ 12 ∷ 13 ∷ 14 ∷ 18 ∷ []) ≡ bad ∷ bad ∷ (Ok tt) ∷ bad ∷ bad ∷ bad ∷ (Ok tt) ∷ (Ok tt) ∷ []
   -- kind 4: 8 bytes
-  pub time : map (fits 4) (0 ∷ 7 ∷ 8 ∷ 9 ∷ 16 ∷ []) ≡ bad ∷ bad ∷ Fine ∷ bad ∷ bad ∷ []
+  pub time : map (fits 4) (0 ∷ 7 ∷ 8 ∷ 9 ∷ 16 ∷ []) ≡ bad ∷ bad ∷ (Ok tt) ∷ bad ∷ bad ∷ []
   -- kind 5: whole entries, or none
-  pub entries : map (fits 5) (0 ∷ 4 ∷ 11 ∷ 12 ∷ 13 ∷ 24 ∷ []) ≡ Fine ∷ bad ∷ bad ∷ Fine ∷ bad ∷ Fine ∷ []
+  pub entries : map (fits 5) (0 ∷ 4 ∷ 11 ∷ 12 ∷ 13 ∷ 24 ∷ []) ≡ (Ok tt) ∷ bad ∷ bad ∷ (Ok tt) ∷ bad ∷ (Ok tt) ∷ []
   -- no other kind: 0, 7, 255, and those whose low byte alone would do
   pub others :
       (map (λ k. fits k 0) (0 ∷ 7 ∷ 255 ∷ 261 ∷ 65536 ∷ []) ≡ bad ∷ bad ∷ bad ∷ bad ∷ bad ∷ [])
@@ -136,16 +135,16 @@ pub record BlockRecords : Type 0 where
       (is_good 0 (sender-and 0) ≡ true) × (is_good 1 (sender-and 0) ≡ false) × (is_good 0 (of-kind 5 []) ≡ false)
       × (is_good 1 (of-kind 5 []) ≡ true) × (is_good 2 (of-kind 5 []) ≡ true)
 
-abbrev pub fault : List ℕ → Checked
+abbrev pub fault : List ℕ → Or (Unit {0})
 fault list = jobs_fault 0 (jobs_of list)
 
-abbrev pub at-record : ℕ → Checked
-at-record i = Unfit (BadRecord i)
+abbrev pub at-record : ℕ → Or (Unit {0})
+at-record i = Err (BadRecord i)
 
 -- 12, over the whole list, with the index of the first bad record, the header record counted
 pub record Twelve : Type 0 where
   pub none :
-      (fault (header 0) ≡ Fine) × (fault (header 252 ++ (clock 1 2 ++ (echoes [] ++ report 2 1 2 15 []))) ≡ Fine)
+      (fault (header 0) ≡ Ok tt) × (fault (header 252 ++ (clock 1 2 ++ (echoes [] ++ report 2 1 2 15 []))) ≡ Ok tt)
   -- an empty list, and a first record of another kind: 0
   pub at-0 :
       (fault [] ≡ at-record 0) × (fault (clock 1 2) ≡ at-record 0) × (fault (clock 1 2 ++ header 0) ≡ at-record 0)
@@ -170,9 +169,9 @@ pub record Twelve : Type 0 where
       × (fault (header 0 ++ (report 1 1 4 0 (1 ∷ []) ++ (report 1 1 4 0 (16384 ∷ []) ++ report 1 1 4 0 (16384 ∷ []))))
       ≡ at-record 2)
       × (fault (header 2 ++ report 1 10 14 0 (16384 ∷ [])) ≡ at-record 0)
-      × (fault (header 0 ++ (report 1 10 14 0 (16385 ∷ []) ++ receipts 5 9 0 (16384 ∷ []))) ≡ Fine)
+      × (fault (header 0 ++ (report 1 10 14 0 (16385 ∷ []) ++ receipts 5 9 0 (16384 ∷ []))) ≡ Ok tt)
   -- records from an index on
-  pub from-here : (jobs_fault 5 [] ≡ Fine) × (jobs_fault 5 (of-kind 5 [] ∷ of-kind 6 [] ∷ []) ≡ Unfit (BadRecord 6))
+  pub from-here : (jobs_fault 5 [] ≡ Ok tt) × (jobs_fault 5 (of-kind 5 [] ∷ of-kind 6 [] ∷ []) ≡ Err (BadRecord 6))
 
 -- what a record asks to be shown: the standard reading of its own words
 pub record Asked : Type 0 where

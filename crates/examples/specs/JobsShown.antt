@@ -1,8 +1,7 @@
 -- Facts of def_jobs' Shown: all that a block shows in each reading, and when two show the same.
 -- RULES, "Job lists and writing": "Shown" compares fields, numbers, times, entries; not chunk words.
-use Rattle.std.specs.Prelude.{◌≡◌, true, false, [], ◌∷◌, map}
+use Rattle.std.specs.Prelude.{◌≡◌, true, false, [], ◌∷◌, map, Ok, Err}
 use Rattle.def_refusals.specs.declared.Refusal.TheVariants.{BadBlockLength, NoFields}
-use Rattle.def_refusals.specs.Answers.{shown, refused}
 use Rattle.def_wire.specs.declared.Reading.TheVariants.{Standard, Crate}
 use Rattle.def_wire.specs.declared.Rle.TheVariants.{Loss, Duplicate}
 use Rattle.def_jobs.specs.Shown.{Record, reported, received, clocked, echoed, bare}
@@ -14,55 +13,55 @@ use Rattle.examples.specs.Standard.{echo, pair}
 pub record OfABlock : Type 0 where
   pub loss :
       (record_of Standard (rows (0x01010003 ∷ 7 ∷ 0x000a000f ∷ 0x40024001 ∷ []))
-      ≡ shown (reported Loss (fields 7 10 15 1) (10 ∷ 12 ∷ 14 ∷ [])))
+      ≡ Ok (reported Loss (fields 7 10 15 1) (10 ∷ 12 ∷ 14 ∷ [])))
       × (record_of Crate (rows (0x01010003 ∷ 7 ∷ 0x000a000f ∷ 0x40024001 ∷ []))
-      ≡ shown (reported Loss (fields 7 10 15 1) (10 ∷ 12 ∷ [])))
+      ≡ Ok (reported Loss (fields 7 10 15 1) (10 ∷ 12 ∷ [])))
   pub duplicate :
       (record_of Standard (rows (0x02000003 ∷ 7 ∷ 0x000a000f ∷ 0x40024001 ∷ []))
-      ≡ shown (reported Duplicate (fields 7 10 15 0) (10 ∷ 11 ∷ 12 ∷ [])))
+      ≡ Ok (reported Duplicate (fields 7 10 15 0) (10 ∷ 11 ∷ 12 ∷ [])))
       × (record_of Crate (rows (0x02000003 ∷ 7 ∷ 0x000a000f ∷ 0x40024001 ∷ []))
-      ≡ shown (reported Duplicate (fields 7 10 15 0) (10 ∷ 11 ∷ [])))
+      ≡ Ok (reported Duplicate (fields 7 10 15 0) (10 ∷ 11 ∷ [])))
   pub receipt-times :
       (record_of Standard (rows (0x03000004 ∷ 7 ∷ 0x00050006 ∷ 100 ∷ 200 ∷ []))
-      ≡ shown (received (fields 7 5 6 0) (pair 5 100 ∷ [])))
+      ≡ Ok (received (fields 7 5 6 0) (pair 5 100 ∷ [])))
       × (record_of Crate (rows (0x03000003 ∷ 7 ∷ 0x00050009 ∷ 100 ∷ 200 ∷ []))
-      ≡ shown (received (fields 7 5 9 0) (pair 5 100 ∷ pair 6 200 ∷ [])))
+      ≡ Ok (received (fields 7 5 9 0) (pair 5 100 ∷ pair 6 200 ∷ [])))
   pub time :
-      (record_of Standard (rows (0x04000002 ∷ 1 ∷ 2 ∷ [])) ≡ shown (clocked (record { 0 = 0x100000002 })))
-      × (record_of Crate (rows (0x04000000 ∷ 1 ∷ 2 ∷ [])) ≡ shown (clocked (record { 0 = 0x100000002 })))
+      (record_of Standard (rows (0x04000002 ∷ 1 ∷ 2 ∷ [])) ≡ Ok (clocked (record { 0 = 0x100000002 })))
+      × (record_of Crate (rows (0x04000000 ∷ 1 ∷ 2 ∷ [])) ≡ Ok (clocked (record { 0 = 0x100000002 })))
   pub entries :
-      (record_of Standard (rows (0x05000003 ∷ 1 ∷ 2 ∷ 3 ∷ [])) ≡ shown (echoed (echo 1 2 3 ∷ [])))
+      (record_of Standard (rows (0x05000003 ∷ 1 ∷ 2 ∷ 3 ∷ [])) ≡ Ok (echoed (echo 1 2 3 ∷ [])))
       × (record_of Crate (rows (0x05000003 ∷ 1 ∷ 2 ∷ 3 ∷ 4 ∷ 5 ∷ 6 ∷ []))
-      ≡ shown (echoed (echo 1 2 3 ∷ echo 4 5 6 ∷ [])))
+      ≡ Ok (echoed (echo 1 2 3 ∷ echo 4 5 6 ∷ [])))
   -- any other type shows type and length only, whatever its length
   pub other :
-      (record_of Standard (rows (0x00000000 ∷ [])) ≡ shown bare)
-      × (record_of Crate (rows (0x06000001 ∷ 1 ∷ [])) ≡ shown bare)
-      × (record_of Standard (rows (0xff000001 ∷ 1 ∷ [])) ≡ shown bare)
+      (record_of Standard (rows (0x00000000 ∷ [])) ≡ Ok bare)
+      × (record_of Crate (rows (0x06000001 ∷ 1 ∷ [])) ≡ Ok bare)
+      × (record_of Standard (rows (0xff000001 ∷ 1 ∷ [])) ≡ Ok bare)
   -- 7 in each reading's own rule, and 8 of the crate's type 3
   pub refusal :
-      (record_of Standard (rows (0x01000001 ∷ 7 ∷ [])) ≡ refused (BadBlockLength 12 8))
-      × (record_of Crate (rows (0x02000001 ∷ 7 ∷ [])) ≡ refused (BadBlockLength 12 8))
-      × (record_of Standard (rows (0x03000001 ∷ 7 ∷ [])) ≡ refused (BadBlockLength 12 8))
-      × (record_of Crate (rows (0x03000001 ∷ 7 ∷ [])) ≡ refused (NoFields 8))
-      × (record_of Standard (rows (0x04000000 ∷ [])) ≡ refused (BadBlockLength 12 4))
-      × (record_of Standard (rows (0x05000001 ∷ 7 ∷ [])) ≡ refused (BadBlockLength 16 8))
-      × (record_of Crate (rows (0x05000001 ∷ 7 ∷ [])) ≡ refused (BadBlockLength 16 8))
+      (record_of Standard (rows (0x01000001 ∷ 7 ∷ [])) ≡ Err (BadBlockLength 12 8))
+      × (record_of Crate (rows (0x02000001 ∷ 7 ∷ [])) ≡ Err (BadBlockLength 12 8))
+      × (record_of Standard (rows (0x03000001 ∷ 7 ∷ [])) ≡ Err (BadBlockLength 12 8))
+      × (record_of Crate (rows (0x03000001 ∷ 7 ∷ [])) ≡ Err (NoFields 8))
+      × (record_of Standard (rows (0x04000000 ∷ [])) ≡ Err (BadBlockLength 12 4))
+      × (record_of Standard (rows (0x05000001 ∷ 7 ∷ [])) ≡ Err (BadBlockLength 16 8))
+      × (record_of Crate (rows (0x05000001 ∷ 7 ∷ [])) ≡ Err (BadBlockLength 16 8))
   -- a run of no length: 7 in the standard, and the crate shows the rest
   pub lost-run :
-      (record_of Standard (rows (0x01000003 ∷ 7 ∷ 0x000a000f ∷ 0x40024000 ∷ [])) ≡ refused (BadBlockLength 12 16))
+      (record_of Standard (rows (0x01000003 ∷ 7 ∷ 0x000a000f ∷ 0x40024000 ∷ [])) ≡ Err (BadBlockLength 12 16))
       × (record_of Crate (rows (0x01000003 ∷ 7 ∷ 0x000a000f ∷ 0x40024000 ∷ []))
-      ≡ shown (reported Loss (fields 7 10 15 0) (10 ∷ 11 ∷ [])))
+      ≡ Ok (reported Loss (fields 7 10 15 0) (10 ∷ 11 ∷ [])))
   -- begin off the grid: each reading's own numbers, with the same fields
   pub off-the-grid :
       (record_of Standard (rows (0x01020003 ∷ 7 ∷ 0x00050014 ∷ 0x40040000 ∷ []))
-      ≡ shown (reported Loss (fields 7 5 20 2) (8 ∷ 12 ∷ 16 ∷ [])))
+      ≡ Ok (reported Loss (fields 7 5 20 2) (8 ∷ 12 ∷ 16 ∷ [])))
       × (record_of Crate (rows (0x01020003 ∷ 7 ∷ 0x00050014 ∷ 0x40040000 ∷ []))
-      ≡ shown (reported Loss (fields 7 5 20 2) (5 ∷ 9 ∷ 13 ∷ 17 ∷ [])))
+      ≡ Ok (reported Loss (fields 7 5 20 2) (5 ∷ 9 ∷ 13 ∷ 17 ∷ [])))
       × (record_of Standard (rows (0x03020003 ∷ 7 ∷ 0x00050014 ∷ 100 ∷ []))
-      ≡ shown (received (fields 7 5 20 2) (pair 8 100 ∷ [])))
+      ≡ Ok (received (fields 7 5 20 2) (pair 8 100 ∷ [])))
       × (record_of Crate (rows (0x03020003 ∷ 7 ∷ 0x00050014 ∷ 100 ∷ []))
-      ≡ shown (received (fields 7 5 20 2) (pair 5 100 ∷ [])))
+      ≡ Ok (received (fields 7 5 20 2) (pair 5 100 ∷ [])))
 
 abbrev pub a-loss : Record
 a-loss = reported Loss (fields 7 10 15 1) (10 ∷ 12 ∷ [])

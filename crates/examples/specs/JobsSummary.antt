@@ -1,13 +1,10 @@
 -- Facts of def_jobs for kind 6: which records are good, what they ask, their 40 bytes, what a summary shows and when
 -- two show the same, and that a summary misleads nobody.
 -- RULES, "Job lists and writing".
+use Rattle.std.specs.Prelude.{Ok, Err, Some, None}
 use Rattle.std.specs.Prelude.{ℕ, ◌≡◌, true, false, List, [], ◌∷◌, ◌++◌, map, length, take, replicate}
 use Rattle.def_refusals.specs.declared.Refusal.TheVariants.{BadBlockLength, BadRecord, TooMany, Misleads}
-use Rattle.def_refusals.specs.declared.Checked.TheVariants.{Fine}
-use Rattle.def_refusals.specs.Answers.{shown, refused}
 use Rattle.def_wire.specs.declared.Reading.TheVariants.{Standard, Crate}
-use Rattle.def_wire.specs.declared.CountOr.TheVariants.{Counted, Uncounted}
-use Rattle.def_wire.specs.declared.JitterOr.TheVariants.{Jitter, NoJitter}
 use Rattle.def_wire.specs.declared.HopsOr.TheVariants.{NoHops, Ttl, HopLimit, Unknown}
 use Rattle.def_wire.specs.declared.Summary.{Summary}
 use Rattle.def_wire.specs.Summary.{spread, byte_spread}
@@ -46,7 +43,7 @@ pub record Records : Type 0 where
       (job_flags (asks-for 232) ≡ 232) × (job_sums (asks-for 232) ≡ the-sums) × (job_sums (asks-for 0) ≡ the-sums)
   -- 38 bytes, one less and one more; none; as many as the block has
   pub body-size :
-      map (fits 6) (0 ∷ 36 ∷ 37 ∷ 38 ∷ 39 ∷ 40 ∷ 76 ∷ []) ≡ bad ∷ bad ∷ bad ∷ Fine ∷ bad ∷ bad ∷ bad ∷ []
+      map (fits 6) (0 ∷ 36 ∷ 37 ∷ 38 ∷ 39 ∷ 40 ∷ 76 ∷ []) ≡ bad ∷ bad ∷ bad ∷ (Ok tt) ∷ bad ∷ bad ∷ bad ∷ []
   -- a second byte that is not 0
   pub second-byte :
       map (λ b. is_block_job (of-kind 6 (body-with 232 b))) (0 ∷ 1 ∷ 128 ∷ 255 ∷ [])
@@ -63,7 +60,7 @@ pub record Records : Type 0 where
       ≡ true ∷ true ∷ true ∷ false ∷ false ∷ false ∷ false ∷ false ∷ []
   -- 12 with its own index; a kind of which the low byte alone is 6
   pub twelve :
-      (fault (header 0 ++ (summary 232 ++ summary 0)) ≡ Fine)
+      (fault (header 0 ++ (summary 232 ++ summary 0)) ≡ Ok tt)
       × (fault (header 0 ++ (summary 232 ++ (summary 24 ++ summary 1))) ≡ at-record 2)
       × (fault (summary 232) ≡ at-record 0) × (fault (header 0 ++ job 262 (body-with 232 0)) ≡ at-record 1)
       × (fault (header 0 ++ take 43 (summary 232)) ≡ at-record 1)
@@ -74,8 +71,8 @@ pub record Written : Type 0 where
   pub asked :
       map (λ f. asked_of (asks-for f)) (232 ∷ 0 ∷ 240 ∷ 104 ∷ 168 ∷ 200 ∷ [])
       ≡ summed full ∷ summed empty ∷ summed (with-numbers lost twice jitter hops)
-      ∷ summed (with-numbers Uncounted twice jitter ttl) ∷ summed (with-numbers lost Uncounted jitter ttl)
-      ∷ summed (with-numbers lost twice NoJitter ttl) ∷ []
+      ∷ summed (with-numbers None twice jitter ttl) ∷ summed (with-numbers lost None jitter ttl)
+      ∷ summed (with-numbers lost twice None ttl) ∷ []
   -- 40 bytes in both layouts; every number as given, its flag set or clear
   pub numbers : sums_bytes the-sums ≡ rows nine_words
   pub block :
@@ -84,13 +81,13 @@ pub record Written : Type 0 where
       × (length (block_bytes Plain (asks-for 0)) ≡ 40)
   -- what is written is shown as asked
   pub round_trip :
-      (record_of Standard (block_bytes Plain (asks-for 232)) ≡ shown (asked_of (asks-for 232)))
-      × (record_of Standard (block_bytes Plain (asks-for 0)) ≡ shown (asked_of (asks-for 0)))
-      × (record_of Standard (block_bytes Careful (asks-for 112)) ≡ shown (asked_of (asks-for 112)))
+      (record_of Standard (block_bytes Plain (asks-for 232)) ≡ Ok (asked_of (asks-for 232)))
+      × (record_of Standard (block_bytes Plain (asks-for 0)) ≡ Ok (asked_of (asks-for 0)))
+      × (record_of Standard (block_bytes Careful (asks-for 112)) ≡ Ok (asked_of (asks-for 112)))
   pub packets :
-      (packet_of Plain (header 0 ++ summary 232) ≡ shown (packet (words-with 232)))
-      × (packet_of Careful (header 0 ++ (summary 0 ++ summary 240)) ≡ shown (packet (words-with 0 ++ words-with 240)))
-      × (packet_of Plain (header 4 ++ summary 16) ≡ shown (padded (words-with 16 ++ (4 ∷ []))))
+      (packet_of Plain (header 0 ++ summary 232) ≡ Ok (packet (words-with 232)))
+      × (packet_of Careful (header 0 ++ (summary 0 ++ summary 240)) ≡ Ok (packet (words-with 0 ++ words-with 240)))
+      × (packet_of Plain (header 4 ++ summary 16) ≡ Ok (padded (words-with 16 ++ (4 ∷ []))))
 
 -- the numbers of `full`, of another span
 abbrev pub of-span : ℕ → ℕ → ℕ → Summary
@@ -108,27 +105,27 @@ abbrev pub four-hops : ℕ → ℕ → ℕ → ℕ → Record
 four-hops a b c d = summed (with-numbers lost twice jitter (Ttl (byte_spread a b c d)))
 
 abbrev pub four-jitter : ℕ → ℕ → ℕ → ℕ → Record
-four-jitter a b c d = summed (with-numbers lost twice (Jitter (spread a b c d)) ttl)
+four-jitter a b c d = summed (with-numbers lost twice (Some (spread a b c d)) ttl)
 
 -- what a block shows, and when two show the same
 pub record Shown : Type 0 where
   -- the standard: the summary, or 7 with 40 and L; the crate: type and length only, whatever its length is
   pub standard :
-      (record_of Standard (a_block 232) ≡ shown (summed full)) × (record_of Standard (a_block 7) ≡ shown (summed empty))
-      × (record_of Standard too_short ≡ refused (BadBlockLength 40 36))
-      × (record_of Standard too_long ≡ refused (BadBlockLength 40 44))
+      (record_of Standard (a_block 232) ≡ Ok (summed full)) × (record_of Standard (a_block 7) ≡ Ok (summed empty))
+      × (record_of Standard too_short ≡ Err (BadBlockLength 40 36))
+      × (record_of Standard too_long ≡ Err (BadBlockLength 40 44))
   pub crate :
-      (record_of Crate (a_block 232) ≡ shown bare) × (record_of Crate too_short ≡ shown bare)
-      × (record_of Crate (rows (0x06000000 ∷ [])) ≡ shown bare)
+      (record_of Crate (a_block 232) ≡ Ok bare) × (record_of Crate too_short ≡ Ok bare)
+      × (record_of Crate (rows (0x06000000 ∷ [])) ≡ Ok bare)
   -- in a row: its type, the span, each number behind a 1, a 0 for what is absent, and ToH
   pub in_a_row :
       (numbers_row (summed full)
       ≡ 6 ∷ 0x0a0b0c0d ∷ 0x1112 ∷ 0x1314 ∷ 1 ∷ 0x21222324 ∷ 1 ∷ 0x31323334 ∷ 1 ∷ 0x41424344 ∷ 0x51525354
       ∷ 0x61626364 ∷ 0x71727374 ∷ 1 ∷ 0x81 ∷ 0x82 ∷ 0x83 ∷ 0x84 ∷ [])
       × (numbers_row (summed empty) ≡ 6 ∷ 0x0a0b0c0d ∷ 0x1112 ∷ 0x1314 ∷ 0 ∷ 0 ∷ 0 ∷ 0 ∷ [])
-      × (numbers_row (summed (with-numbers Uncounted Uncounted NoJitter Unknown))
+      × (numbers_row (summed (with-numbers None None None Unknown))
       ≡ 6 ∷ 0x0a0b0c0d ∷ 0x1112 ∷ 0x1314 ∷ 0 ∷ 0 ∷ 0 ∷ 3 ∷ [])
-      × (numbers_row (summed (with-numbers Uncounted Uncounted NoJitter (HopLimit (byte_spread 5 6 7 8))))
+      × (numbers_row (summed (with-numbers None None None (HopLimit (byte_spread 5 6 7 8))))
       ≡ 6 ∷ 0x0a0b0c0d ∷ 0x1112 ∷ 0x1314 ∷ 0 ∷ 0 ∷ 0 ∷ 2 ∷ 5 ∷ 6 ∷ 7 ∷ 8 ∷ [])
   pub itself :
       (same_record (summed full) (summed full) ≡ true) × (same_record (summed empty) (summed empty) ≡ true)
@@ -137,7 +134,7 @@ pub record Shown : Type 0 where
   pub differ :
       map (same_record (summed full))
       (summed (of-span 1 0x1112 0x1314) ∷ summed (of-span 0x0a0b0c0d 1 0x1314) ∷ summed (of-span 0x0a0b0c0d 0x1112 1)
-      ∷ summed (with-numbers (Counted 1) twice jitter ttl) ∷ summed (with-numbers lost (Counted 1) jitter ttl) ∷ [])
+      ∷ summed (with-numbers (Some 1) twice jitter ttl) ∷ summed (with-numbers lost (Some 1) jitter ttl) ∷ [])
       ≡ false ∷ false ∷ false ∷ false ∷ false ∷ []
   -- each of four numbers of jitter, and of four of TTL
   pub fours-differ :
@@ -149,15 +146,15 @@ pub record Shown : Type 0 where
       ≡ true ∷ false ∷ false ∷ false ∷ false ∷ [])
   -- absent is not 0; the one absent is not the other
   pub absent-is-not-zero :
-      map (same_record (summed (with-numbers Uncounted Uncounted NoJitter NoHops)))
-      (summed (with-numbers (Counted 0) Uncounted NoJitter NoHops)
-      ∷ summed (with-numbers Uncounted (Counted 0) NoJitter NoHops)
-      ∷ summed (with-numbers Uncounted Uncounted (Jitter (spread 0 0 0 0)) NoHops)
-      ∷ summed (with-numbers Uncounted Uncounted NoJitter (Ttl (byte_spread 0 0 0 0))) ∷ [])
+      map (same_record (summed (with-numbers None None None NoHops)))
+      (summed (with-numbers (Some 0) None None NoHops)
+      ∷ summed (with-numbers None (Some 0) None NoHops)
+      ∷ summed (with-numbers None None (Some (spread 0 0 0 0)) NoHops)
+      ∷ summed (with-numbers None None None (Ttl (byte_spread 0 0 0 0))) ∷ [])
       ≡ false ∷ false ∷ false ∷ false ∷ []
   pub one-absent :
-      same_record (summed (with-numbers (Counted 0) Uncounted NoJitter NoHops))
-      (summed (with-numbers Uncounted (Counted 0) NoJitter NoHops))
+      same_record (summed (with-numbers (Some 0) None None NoHops))
+      (summed (with-numbers None (Some 0) None NoHops))
       ≡ false
   -- TTL is not hop limit, and ToH 0 is not 3
   pub by-toh :
@@ -174,38 +171,38 @@ pub record Misled : Type 0 where
   pub nothing-more :
       (is_bare bare ≡ true) × (is_bare (summed empty) ≡ false) × (is_bare a-time ≡ false) × (is_bare an-echo ≡ false)
   pub against-a-refusal :
-      (same_shown a-time (refused (BadBlockLength 12 8)) ≡ false) × (same_shown a-time (shown a-time) ≡ true)
-      × (same_shown a-time (shown an-echo) ≡ false)
+      (same_shown a-time (Err (BadBlockLength 12 8)) ≡ false) × (same_shown a-time (Ok a-time) ≡ true)
+      × (same_shown a-time (Ok an-echo) ≡ false)
   -- whatever the standard shows or refuses; the other way round it would be one
   pub differing :
-      (differs (shown bare) (shown (summed full)) ≡ false)
-      × (differs (shown bare) (refused (BadBlockLength 40 36)) ≡ false)
-      × (differs (shown bare) (shown bare) ≡ false) × (differs (shown (summed full)) (shown bare) ≡ true)
-      × (differs (shown (summed full)) (shown (summed empty)) ≡ true)
-      × (differs (shown (summed full)) (shown (summed full)) ≡ false)
-      × (differs (refused (BadBlockLength 12 8)) (shown (summed full)) ≡ false)
+      (differs (Ok bare) (Ok (summed full)) ≡ false)
+      × (differs (Ok bare) (Err (BadBlockLength 40 36)) ≡ false)
+      × (differs (Ok bare) (Ok bare) ≡ false) × (differs (Ok (summed full)) (Ok bare) ≡ true)
+      × (differs (Ok (summed full)) (Ok (summed empty)) ≡ true)
+      × (differs (Ok (summed full)) (Ok (summed full)) ≡ false)
+      × (differs (Err (BadBlockLength 12 8)) (Ok (summed full)) ≡ false)
   pub in-a-packet :
       (misleads (packet (words-with 232)) 0 ≡ false) × (misleads (packet (0x06000008 ∷ replicate 8 1)) 0 ≡ false)
       × (misleads (packet (words-with 0 ++ words-with 232)) 1 ≡ false)
   -- alone, behind another, behind a clock, a report and an echo of which the crate shows the same
   pub careful-writes :
-      (careful (summary 232) ≡ shown (packet (words-with 232)))
-      × (careful (summary 0 ++ summary 232) ≡ shown (packet (words-with 0 ++ words-with 232)))
+      (careful (summary 232) ≡ Ok (packet (words-with 232)))
+      × (careful (summary 0 ++ summary 232) ≡ Ok (packet (words-with 0 ++ words-with 232)))
       × (careful (a-clock ++ summary 8)
-      ≡ shown (packet (0x04000002 ∷ 0x11223344 ∷ 0x55667788 ∷ words-with 8)))
+      ≡ Ok (packet (0x04000002 ∷ 0x11223344 ∷ 0x55667788 ∷ words-with 8)))
       × (careful (report 1 10 14 0 (16387 ∷ []) ++ summary 8)
-      ≡ shown (packet (0x01000003 ∷ 7 ∷ 0x000a000e ∷ 0x40030000 ∷ words-with 8)))
-      × (careful (summary 8 ++ echo-job) ≡ shown (packet (words-with 8 ++ (0x05000003 ∷ 10 ∷ 11 ∷ 12 ∷ []))))
+      ≡ Ok (packet (0x01000003 ∷ 7 ∷ 0x000a000e ∷ 0x40030000 ∷ words-with 8)))
+      × (careful (summary 8 ++ echo-job) ≡ Ok (packet (words-with 8 ++ (0x05000003 ∷ 10 ∷ 11 ∷ 12 ∷ []))))
       × (careful (receipts 5 6 0 (100 ∷ []) ++ summary 8)
-      ≡ shown (packet (0x03000003 ∷ 7 ∷ 0x00050006 ∷ 100 ∷ words-with 8)))
+      ≡ Ok (packet (0x03000003 ∷ 7 ∷ 0x00050006 ∷ 100 ∷ words-with 8)))
   -- its bytes are taken for entries and for times: 15 with the index of the block before it
   pub fifteen :
-      (careful (echo-job ++ summary 232) ≡ refused (Misleads 0))
-      × (careful (summary 232 ++ (echo-job ++ summary 232)) ≡ refused (Misleads 1))
-      × (careful (receipts 5 9 0 (100 ∷ []) ++ summary 232) ≡ refused (Misleads 0))
+      (careful (echo-job ++ summary 232) ≡ Err (Misleads 0))
+      × (careful (summary 232 ++ (echo-job ++ summary 232)) ≡ Err (Misleads 1))
+      × (careful (receipts 5 9 0 (100 ∷ []) ++ summary 232) ≡ Err (Misleads 0))
       × (packet_of Plain (header 0 ++ (echo-job ++ summary 232))
-      ≡ shown (packet (0x05000003 ∷ 10 ∷ 11 ∷ 12 ∷ words-with 232)))
+      ≡ Ok (packet (0x05000003 ∷ 10 ∷ 11 ∷ 12 ∷ words-with 232)))
   -- 12 and 14 before it
   pub order :
-      (careful (echo-job ++ (summary 232 ++ summary 24)) ≡ refused (BadRecord 3))
-      × (careful (echo-job ++ (summary 232 ++ times 30 four_bytes)) ≡ refused (TooMany 32 31))
+      (careful (echo-job ++ (summary 232 ++ summary 24)) ≡ Err (BadRecord 3))
+      × (careful (echo-job ++ (summary 232 ++ times 30 four_bytes)) ≡ Err (TooMany 32 31))

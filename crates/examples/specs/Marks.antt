@@ -1,10 +1,8 @@
 -- Facts of def_marks: runs, vectors, the words of marks, the refusals, and the report on marks. RULES, "Chunk words
 -- from marks".
-use Rattle.std.specs.Prelude.{ℕ, ◌≡◌, true, false, List, [], ◌∷◌, ◌++◌, replicate}
+use Rattle.std.specs.Prelude.{ℕ, ◌≡◌, true, false, List, [], ◌∷◌, ◌++◌, replicate, Ok, Err}
 use Rattle.def_refusals.specs.declared.Refusal.TheVariants.{TooMany, BadMark, NoRoom}
-use Rattle.def_refusals.specs.declared.Answer.TheVariants.{Done, Refused}
-use Rattle.def_refusals.specs.declared.Checked.TheVariants.{Fine, Unfit}
-use Rattle.def_refusals.specs.Answers.{shown, refused, Listed}
+use Rattle.def_refusals.specs.Answers.{Listed}
 use Rattle.def_wire.specs.declared.Reading.TheVariants.{Standard, Crate}
 use Rattle.def_wire.specs.declared.Rle.TheVariants.{Loss}
 use Rattle.def_questions.specs.Packets.{numbers_asked}
@@ -76,30 +74,30 @@ pub record Words : Type 0 where
 pub record MarksRefused : Type 0 where
   -- 14 with the number and the limit: one over, far over, and not at the limit
   pub fourteen :
-      (count_fault 65536 ≡ Fine) × (count_fault 65537 ≡ Unfit (TooMany 65537 65536))
-      × (count_fault 1000000 ≡ Unfit (TooMany 1000000 65536)) × (count_fault 0 ≡ Fine)
+      (count_fault 65536 ≡ Ok tt) × (count_fault 65537 ≡ Err (TooMany 65537 65536))
+      × (count_fault 1000000 ≡ Err (TooMany 1000000 65536)) × (count_fault 0 ≡ Ok tt)
   -- 17 with the index of the first that is neither 0 nor 1
   pub seventeen :
-      (bad_from 0 [] ≡ Fine) × (bad_from 0 (0 ∷ 1 ∷ []) ≡ Fine) × (bad_from 0 (2 ∷ []) ≡ Unfit (BadMark 0))
-      × (bad_from 0 (0 ∷ 1 ∷ 2 ∷ 255 ∷ []) ≡ Unfit (BadMark 2)) × (bad_from 7 (1 ∷ 255 ∷ []) ≡ Unfit (BadMark 8))
+      (bad_from 0 [] ≡ Ok tt) × (bad_from 0 (0 ∷ 1 ∷ []) ≡ Ok tt) × (bad_from 0 (2 ∷ []) ≡ Err (BadMark 0))
+      × (bad_from 0 (0 ∷ 1 ∷ 2 ∷ 255 ∷ []) ≡ Err (BadMark 2)) × (bad_from 7 (1 ∷ 255 ∷ []) ≡ Err (BadMark 8))
   -- of the marks: judged over all of them
   pub judged :
-      (marks_fault [] ≡ Fine) × (marks_fault (heard 2 ++ missed 1) ≡ Fine)
-      × (marks_fault (heard 40 ++ (48 ∷ [])) ≡ Unfit (BadMark 40))
-  pub at-the-limit : marks_fault (missed 65536) ≡ Fine
+      (marks_fault [] ≡ Ok tt) × (marks_fault (heard 2 ++ missed 1) ≡ Ok tt)
+      × (marks_fault (heard 40 ++ (48 ∷ [])) ≡ Err (BadMark 40))
+  pub at-the-limit : marks_fault (missed 65536) ≡ Ok tt
   -- 14 before 17
   pub one-over :
-      (marks_fault (missed 65537) ≡ Unfit (TooMany 65537 65536))
-      × (marks_fault (2 ∷ missed 65536) ≡ Unfit (TooMany 65537 65536))
+      (marks_fault (missed 65537) ≡ Err (TooMany 65537 65536))
+      × (marks_fault (2 ∷ missed 65536) ≡ Err (TooMany 65537 65536))
   pub asked :
-      (marks_asked (heard 15) ≡ shown (16399 ∷ [])) × (marks_asked [] ≡ shown [])
-      × (marks_asked (heard 15 ++ (2 ∷ [])) ≡ refused (BadMark 15))
+      (marks_asked (heard 15) ≡ Ok (16399 ∷ [])) × (marks_asked [] ≡ Ok [])
+      × (marks_asked (heard 15 ++ (2 ∷ [])) ≡ Err (BadMark 15))
   -- into a lent list: 17 before 11, whose values are words needed and lent
   pub into-a-list :
-      Listed (marks_asked (heard 16384)) (8 ∷ 9 ∷ 10 ∷ []) (Done 2) (32767 ∷ 49152 ∷ 10 ∷ [])
-      × Listed (marks_asked (heard 16384)) (8 ∷ []) (Refused (NoRoom 2 1)) (8 ∷ [])
-      × Listed (marks_asked (3 ∷ heard 16384)) (8 ∷ []) (Refused (BadMark 0)) (8 ∷ [])
-      × Listed (marks_asked []) [] (Done 0) []
+      Listed (marks_asked (heard 16384)) (8 ∷ 9 ∷ 10 ∷ []) (Ok 2) (32767 ∷ 49152 ∷ 10 ∷ [])
+      × Listed (marks_asked (heard 16384)) (8 ∷ []) (Err (NoRoom 2 1)) (8 ∷ [])
+      × Listed (marks_asked (3 ∷ heard 16384)) (8 ∷ []) (Err (BadMark 0)) (8 ∷ [])
+      × Listed (marks_asked []) [] (Ok 0) []
 
 pub record Reports : Type 0 where
   -- little-endian
@@ -133,8 +131,8 @@ sample-packet = rows (0x80cf0005 ∷ 1 ∷ 0x01000003 ∷ 7 ∷ 0xfffe0002 ∷ 0
 -- from marks to a packet and back: in both layouts, by both readings
 pub record ReportReadBack : Type 0 where
   pub word : words_of sample ≡ 0xe800 ∷ []
-  pub plain : packet_of Plain (report_of 1 7 65534 sample) ≡ shown sample-packet
-  pub careful : packet_of Careful (report_of 1 7 65534 sample) ≡ shown sample-packet
-  pub standard : numbers_asked Standard sample-packet 0 Loss ≡ shown (heard_of 65534 sample)
-  pub crate : numbers_asked Crate sample-packet 0 Loss ≡ shown (heard_of 65534 sample)
+  pub plain : packet_of Plain (report_of 1 7 65534 sample) ≡ Ok sample-packet
+  pub careful : packet_of Careful (report_of 1 7 65534 sample) ≡ Ok sample-packet
+  pub standard : numbers_asked Standard sample-packet 0 Loss ≡ Ok (heard_of 65534 sample)
+  pub crate : numbers_asked Crate sample-packet 0 Loss ≡ Ok (heard_of 65534 sample)
   pub heard : heard_of 65534 sample ≡ 65534 ∷ 65535 ∷ 1 ∷ []

@@ -1,14 +1,10 @@
 -- Facts of def_portions for type 6: the start at a summary's fourth byte, the summary at its last, 7 for another
 -- length, and how four lists hold it.
 -- RULES, "Packets in portions".
-use Rattle.std.specs.Prelude.{ℕ, ◌≡◌, List, [], ◌∷◌, ◌++◌, map, take, drop, replicate}
+use Rattle.std.specs.Prelude.{ℕ, ◌≡◌, List, [], ◌∷◌, ◌++◌, map, take, drop, replicate, Ok, Err, Some, None}
 use Rattle.def_refusals.specs.declared.Refusal.TheVariants.{NoRoom, BlockTooLong, BadBlockLength}
-use Rattle.def_refusals.specs.declared.Checked.TheVariants.{Fine, Unfit}
 use Rattle.def_wire.specs.declared.Kind.TheVariants.{Statistics}
-use Rattle.def_wire.specs.declared.CountOr.TheVariants.{Counted, Uncounted}
-use Rattle.def_wire.specs.declared.JitterOr.TheVariants.{NoJitter}
 use Rattle.def_wire.specs.declared.HopsOr.TheVariants.{Unknown}
-use Rattle.def_wire.specs.declared.KindOr.TheVariants.{AKind}
 use Rattle.def_wire.specs.Summary.{byte_spread}
 use Rattle.def_portions.specs.declared.Event.TheVariants.{Header, Start, Ranged as RangedStart, Number, Summed, End}
 use Rattle.def_portions.specs.Events.{block_fault, block_events, course_of, course, clear_part, lost_fault}
@@ -24,15 +20,15 @@ use Rattle.examples.specs.WireSummary.{twice, jitter, hops}
 pub record OneBlock : Type 0 where
   -- 7 with 40 and L, at the block's fourth byte
   pub seven :
-      (block_fault 99 (rows (0x06000009 ∷ [])) ≡ Fine)
-      × (block_fault 99 (rows (0x06e80008 ∷ [])) ≡ Unfit (BadBlockLength 40 36))
-      × (block_fault 99 (rows (0x0600000a ∷ [])) ≡ Unfit (BadBlockLength 40 44))
-      × (block_fault 99 (rows (0x06000000 ∷ [])) ≡ Unfit (BadBlockLength 40 4))
+      (block_fault 99 (rows (0x06000009 ∷ [])) ≡ Ok tt)
+      × (block_fault 99 (rows (0x06e80008 ∷ [])) ≡ Err (BadBlockLength 40 36))
+      × (block_fault 99 (rows (0x0600000a ∷ [])) ≡ Err (BadBlockLength 40 44))
+      × (block_fault 99 (rows (0x06000000 ∷ [])) ≡ Err (BadBlockLength 40 4))
   -- 6 first
   pub six-first :
-      (block_fault 40 (rows (0x06000009 ∷ [])) ≡ Fine)
-      × (block_fault 36 (rows (0x06000009 ∷ [])) ≡ Unfit (BlockTooLong 40 36))
-      × (block_fault 32 (rows (0x06000008 ∷ [])) ≡ Unfit (BlockTooLong 36 32))
+      (block_fault 40 (rows (0x06000009 ∷ [])) ≡ Ok tt)
+      × (block_fault 36 (rows (0x06000009 ∷ [])) ≡ Err (BlockTooLong 40 36))
+      × (block_fault 32 (rows (0x06000008 ∷ [])) ≡ Err (BlockTooLong 36 32))
   -- the start with byte 4, and nothing more before byte 40
   pub so_far :
       (block_events (take 4 (a_block 232)) ≡ Start 6 40 ∷ []) × (block_events (take 5 (a_block 232)) ≡ Start 6 40 ∷ [])
@@ -46,7 +42,7 @@ pub record OneBlock : Type 0 where
       × (block_events (a_block 240) ≡ Start 6 40 ∷ Summed (with-numbers lost twice jitter hops) ∷ [])
   -- a run of ones of no length is nothing here
   pub no_words :
-      (clear_part (AKind Statistics) lost-loss ≡ lost-loss) × (lost_fault (AKind Statistics) lost-loss ≡ Fine)
+      (clear_part (Some Statistics) lost-loss ≡ lost-loss) × (lost_fault (Some Statistics) lost-loss ≡ Ok tt)
 
 -- a summary, and a block behind it; a summary of 36 bytes behind a block
 abbrev pub one-summary : List ℕ
@@ -57,33 +53,33 @@ of-36 = packet (0x63000000 ∷ 0x06000008 ∷ replicate 8 1)
 
 pub record OfAPacket : Type 0 where
   pub so_far :
-      (course_of (take 11 one-summary) ≡ course (Header 52 1 ∷ []) Fine)
-      × (course_of (take 12 one-summary) ≡ course (Header 52 1 ∷ Start 6 40 ∷ []) Fine)
-      × (course_of (take 47 one-summary) ≡ course (Header 52 1 ∷ Start 6 40 ∷ []) Fine)
-      × (course_of (take 48 one-summary) ≡ course (Header 52 1 ∷ Start 6 40 ∷ Summed full ∷ []) Fine)
-      × (course_of one-summary ≡ course (Header 52 1 ∷ Start 6 40 ∷ Summed full ∷ Start 99 4 ∷ End ∷ []) Fine)
+      (course_of (take 11 one-summary) ≡ course (Header 52 1 ∷ []) (Ok tt))
+      × (course_of (take 12 one-summary) ≡ course (Header 52 1 ∷ Start 6 40 ∷ []) (Ok tt))
+      × (course_of (take 47 one-summary) ≡ course (Header 52 1 ∷ Start 6 40 ∷ []) (Ok tt))
+      × (course_of (take 48 one-summary) ≡ course (Header 52 1 ∷ Start 6 40 ∷ Summed full ∷ []) (Ok tt))
+      × (course_of one-summary ≡ course (Header 52 1 ∷ Start 6 40 ∷ Summed full ∷ Start 99 4 ∷ End ∷ []) (Ok tt))
   -- two, each its own
   pub two :
       course_of (packet (words-with 0 ++ words-with 240))
       ≡ course
       (Header 88 1 ∷ Start 6 40 ∷ Summed empty ∷ Start 6 40 ∷ Summed (with-numbers lost twice jitter hops) ∷ End ∷ [])
-      Fine
+      (Ok tt)
   -- of another length: its start is not told, nor what is behind it
   pub seven :
-      (course_of (take 15 of-36) ≡ course (Header 48 1 ∷ Start 99 4 ∷ []) Fine)
-      × (course_of (take 16 of-36) ≡ course (Header 48 1 ∷ Start 99 4 ∷ []) (Unfit (BadBlockLength 40 36)))
-      × (course_of of-36 ≡ course (Header 48 1 ∷ Start 99 4 ∷ []) (Unfit (BadBlockLength 40 36)))
+      (course_of (take 15 of-36) ≡ course (Header 48 1 ∷ Start 99 4 ∷ []) (Ok tt))
+      × (course_of (take 16 of-36) ≡ course (Header 48 1 ∷ Start 99 4 ∷ []) (Err (BadBlockLength 40 36)))
+      × (course_of of-36 ≡ course (Header 48 1 ∷ Start 99 4 ∷ []) (Err (BadBlockLength 40 36)))
   -- one call's events; room for both, and for one
   pub calls :
       (call_of (take 8 one-summary) (take 40 (drop 8 one-summary)) 2
-      ≡ call (Start 6 40 ∷ Summed full ∷ []) Fine (take 48 one-summary))
+      ≡ call (Start 6 40 ∷ Summed full ∷ []) (Ok tt) (take 48 one-summary))
       × (call_of (take 47 one-summary) (take 1 (drop 47 one-summary)) 1
-      ≡ call (Summed full ∷ []) Fine (take 48 one-summary))
+      ≡ call (Summed full ∷ []) (Ok tt) (take 48 one-summary))
       × (call_of (take 47 one-summary) (take 1 (drop 47 one-summary)) 0
-      ≡ call [] (Unfit (NoRoom 1 0)) (take 47 one-summary))
+      ≡ call [] (Err (NoRoom 1 0)) (take 47 one-summary))
       × (call_of (take 8 one-summary) (take 40 (drop 8 one-summary)) 1
-      ≡ call [] (Unfit (NoRoom 2 1)) (take 8 one-summary))
-      × (call_of (take 12 of-36) (take 4 (drop 12 of-36)) 0 ≡ call [] (Unfit (BadBlockLength 40 36)) (take 16 of-36))
+      ≡ call [] (Err (NoRoom 2 1)) (take 8 one-summary))
+      × (call_of (take 12 of-36) (take 4 (drop 12 of-36)) 0 ≡ call [] (Err (BadBlockLength 40 36)) (take 16 of-36))
 
 -- a list of so many items, all 5
 abbrev pub fives : ℕ → List ℕ
@@ -104,11 +100,11 @@ pub record Held : Type 0 where
   -- 0 where a number is absent, and its flag clear
   pub absent :
       (tag_of (Summed empty) ≡ 9) × (value_part (Summed empty) ≡ puts 0x0a0b0c0d11121314)
-      × (tag_of (Summed (with-numbers Uncounted Uncounted NoJitter Unknown)) ≡ 0x1809)
-      × (tag_of (Summed (with-numbers (Counted 0) twice jitter hops)) ≡ 0x81828384f009)
+      × (tag_of (Summed (with-numbers None None None Unknown)) ≡ 0x1809)
+      × (tag_of (Summed (with-numbers (Some 0) twice jitter hops)) ≡ 0x81828384f009)
       × (put_sums (Summed empty) 0 (fives 3) ≡ 0 ∷ 0 ∷ 0 ∷ [])
-      × (put_sums (Summed (with-numbers lost Uncounted NoJitter hops)) 0 (fives 3) ≡ 0x2122232400000000 ∷ 0 ∷ 0 ∷ [])
-      × (put_sums (Summed (with-numbers Uncounted twice jitter hops)) 0 (fives 3)
+      × (put_sums (Summed (with-numbers lost None None hops)) 0 (fives 3) ≡ 0x2122232400000000 ∷ 0 ∷ 0 ∷ [])
+      × (put_sums (Summed (with-numbers None twice jitter hops)) 0 (fives 3)
       ≡ 0x31323334 ∷ 0x4142434451525354 ∷ 0x6162636471727374 ∷ [])
   -- three items for each index
   pub three-each :

@@ -1,9 +1,8 @@
 -- Facts of def_probe: what xrprobe answers to requests of each kind, shown and refused, and each way in which a
 -- request is cut (README, "xrprobe"). The packets are written as `packet` writes them, numbers in a payload by `le4`.
-use Rattle.std.specs.Prelude.{ℕ, ◌≡◌, true, false, List, [], ◌∷◌, ◌++◌, replicate}
+use Rattle.std.specs.Prelude.{ℕ, ◌≡◌, true, false, List, [], ◌∷◌, ◌++◌, replicate, Ok, Err}
 use Prim.Native.String.{String}
 use Rattle.def_refusals.specs.declared.Refusal.TheVariants.{BadBlockLength}
-use Rattle.def_refusals.specs.Answers.{shown, refused}
 use Rattle.def_wire.specs.declared.Reading.TheVariants.{Standard, Crate}
 use Rattle.def_standard.specs.declared.Chunk.TheVariants.{Null, Skip, Run, Vector}
 use Rattle.def_probe.specs.Requests.{Reply, told, cut, reply_text, is_told, reading_first, line_in, list_room, chunk_asked}
@@ -78,9 +77,9 @@ pub record Parts : Type 0 where
       (reading_first (0 ∷ 1 ∷ []) ≡ Standard) × (reading_first (1 ∷ 0 ∷ []) ≡ Crate) × (reading_first (2 ∷ []) ≡ Crate)
   -- room for just as many, one too few, and a list that is refused for another reason
   pub in-room :
-      (line_in {A = ℕ} 3 (λ l. l) (shown (7 ∷ 8 ∷ 9 ∷ [])) ≡ 7 ∷ 8 ∷ 9 ∷ [])
-      × (line_in {A = ℕ} 2 (λ l. l) (shown (7 ∷ 8 ∷ 9 ∷ [])) ≡ text_of ("refused 11 3 2" ∷ []))
-      × (line_in {A = ℕ} 2 (λ l. l) (refused (BadBlockLength 12 8)) ≡ text_of ("refused 7 12 8" ∷ []))
+      (line_in {A = ℕ} 3 (λ l. l) (Ok (7 ∷ 8 ∷ 9 ∷ [])) ≡ 7 ∷ 8 ∷ 9 ∷ [])
+      × (line_in {A = ℕ} 2 (λ l. l) (Ok (7 ∷ 8 ∷ 9 ∷ [])) ≡ text_of ("refused 11 3 2" ∷ []))
+      × (line_in {A = ℕ} 2 (λ l. l) (Err (BadBlockLength 12 8)) ≡ text_of ("refused 7 12 8" ∷ []))
   pub rooms-of-lists :
       (list_room (le4 16384) 0 ≡ 16384) × (list_room (le4 16385) 0 ≡ 16384) × (list_room (le4 4294967295) 0 ≡ 16384)
       × (list_room (9 ∷ le4 5) 1 ≡ 5)

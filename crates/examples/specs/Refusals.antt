@@ -1,16 +1,13 @@
 -- Facts of def_refusals: the table's rows, and what a listing call answers and leaves. RULES, "Refusal numbers".
-use Rattle.std.specs.Prelude.{ℕ, suc, ◌≡◌, List, [], ◌∷◌}
+use Rattle.std.specs.Prelude.{ℕ, suc, ◌≡◌, List, [], ◌∷◌, Ok, Err}
 use Rattle.def_refusals.specs.declared.Refusal.TheVariants.{TooShort, WrongVersion, WrongPacketType, WrongLength}
 use Rattle.def_refusals.specs.declared.Refusal.TheVariants.{BadPadding, BlockTooLong, NoBlock, OtherType}
 use Rattle.def_refusals.specs.declared.Refusal.TheVariants.{BadBlockLength, NoFields, NoPlace, NoRoom, ValueTooLarge}
 use Rattle.def_refusals.specs.declared.Refusal.TheVariants.{BadRecord, TooMany, Misleads, BadMark, Padded}
 use Rattle.def_refusals.specs.declared.Refusal.TheVariants.{PastEnd}
-use Rattle.def_refusals.specs.declared.Answer.{Answer}
-use Rattle.def_refusals.specs.declared.Answer.TheVariants.{Done, Refused}
-use Rattle.def_refusals.specs.declared.Checked.TheVariants.{Fine, Unfit}
 use Rattle.def_refusals.specs.declared.Numbered.{Numbered}
 use Rattle.def_refusals.specs.Numbers.{numbered, row}
-use Rattle.def_refusals.specs.Answers.{Or, shown, refused, on_shown, on_done, on_fine, then_check, each}
+use Rattle.def_refusals.specs.Answers.{Or, on_shown, on_done, on_fine, then_check, each}
 use Rattle.def_refusals.specs.Answers.{answer_of, filled_of, Listed}
 
 -- a number and two values
@@ -51,24 +48,24 @@ pub record Numbers : Type 0 where
 
 -- two items, none, and a refusal
 abbrev pub two_items : Or (List ℕ)
-two_items = shown (4 ∷ 5 ∷ [])
+two_items = Ok (4 ∷ 5 ∷ [])
 
 abbrev pub none : Or (List ℕ)
-none = shown []
+none = Ok []
 
 abbrev pub turned_down : Or (List ℕ)
-turned_down = refused (NoBlock 3)
+turned_down = Err (NoBlock 3)
 
 abbrev pub old : List ℕ
 old = 1 ∷ 2 ∷ 3 ∷ []
 
 pub record Answers : Type 0 where
   -- a count, where the room is more, exact, and none for an empty list
-  pub enough : (answer_of two_items 3 ≡ Done 2) × (answer_of two_items 2 ≡ Done 2) × (answer_of none 0 ≡ Done 0)
+  pub enough : (answer_of two_items 3 ≡ Ok 2) × (answer_of two_items 2 ≡ Ok 2) × (answer_of none 0 ≡ Ok 0)
   -- 11 with needed and lent, one less than exact and with no room
-  pub short : (answer_of two_items 1 ≡ Refused (NoRoom 2 1)) × (answer_of two_items 0 ≡ Refused (NoRoom 2 0))
+  pub short : (answer_of two_items 1 ≡ Err (NoRoom 2 1)) × (answer_of two_items 0 ≡ Err (NoRoom 2 0))
   -- another refusal stands before 11, whatever the room
-  pub other-first : (answer_of turned_down 0 ≡ Refused (NoBlock 3)) × (answer_of turned_down 9 ≡ Refused (NoBlock 3))
+  pub other-first : (answer_of turned_down 0 ≡ Err (NoBlock 3)) × (answer_of turned_down 9 ≡ Err (NoBlock 3))
   -- the items in front, and the rest of the list as it was
   pub rest-kept : (filled_of two_items 3 old ≡ 4 ∷ 5 ∷ 3 ∷ []) × (filled_of none 3 old ≡ old)
   -- exact room, no rest
@@ -77,28 +74,28 @@ pub record Answers : Type 0 where
   pub left-as-is :
       (filled_of two_items 1 (1 ∷ []) ≡ 1 ∷ []) × (filled_of two_items 1 old ≡ old) × (filled_of turned_down 3 old ≡ old)
   -- the contract of one lent list: its own length is the room
-  pub listed : Listed two_items old (Done 2) (4 ∷ 5 ∷ 3 ∷ []) × Listed two_items (1 ∷ 2 ∷ []) (Done 2) (4 ∷ 5 ∷ [])
+  pub listed : Listed two_items old (Ok 2) (4 ∷ 5 ∷ 3 ∷ []) × Listed two_items (1 ∷ 2 ∷ []) (Ok 2) (4 ∷ 5 ∷ [])
   pub not_listed :
-      Listed two_items (1 ∷ []) (Refused (NoRoom 2 1)) (1 ∷ []) × Listed turned_down [] (Refused (NoBlock 3)) []
+      Listed two_items (1 ∷ []) (Err (NoRoom 2 1)) (1 ∷ []) × Listed turned_down [] (Err (NoBlock 3)) []
   -- and no other answer, nor other contents, satisfies it
-  pub no_other : (r : Answer) (out : List ℕ) → Listed two_items old r out → (r ≡ Done 2) × (out ≡ 4 ∷ 5 ∷ 3 ∷ [])
+  pub no_other : (r : Or ℕ) (out : List ℕ) → Listed two_items old r out → (r ≡ Ok 2) × (out ≡ 4 ∷ 5 ∷ 3 ∷ [])
 
 -- a question after another: the first refusal is the answer
 pub record OneAfterAnother : Type 0 where
   pub shown-then :
-      (on_shown two_items (λ l. shown (9 ∷ l)) ≡ shown (9 ∷ 4 ∷ 5 ∷ []))
+      (on_shown two_items (λ l. Ok (9 ∷ l)) ≡ Ok (9 ∷ 4 ∷ 5 ∷ []))
       × (on_shown two_items (λ l. turned_down) ≡ turned_down)
-  pub refused-then : on_shown turned_down (λ l. shown (9 ∷ l)) ≡ turned_down
+  pub refused-then : on_shown turned_down (λ l. Ok (9 ∷ l)) ≡ turned_down
   pub done-then :
-      (on_done (Done 2) (λ n. shown (n ∷ [])) ≡ shown (2 ∷ []))
-      × (on_done (Refused (NoBlock 3)) (λ n. shown (n ∷ [])) ≡ turned_down)
+      (on_done (Ok 2) (λ n. Ok (n ∷ [])) ≡ Ok (2 ∷ []))
+      × (on_done (Err (NoBlock 3)) (λ n. Ok (n ∷ [])) ≡ turned_down)
   pub fine-then :
-      (on_fine Fine two_items ≡ two_items) × (on_fine (Unfit (NoBlock 3)) two_items ≡ turned_down)
-      × (on_fine Fine turned_down ≡ turned_down)
+      (on_fine (Ok tt) two_items ≡ two_items) × (on_fine (Err (NoBlock 3)) two_items ≡ turned_down)
+      × (on_fine (Ok tt) turned_down ≡ turned_down)
   -- the first of two that do not fit
   pub checks :
-      (then_check Fine Fine ≡ Fine) × (then_check Fine (Unfit NoPlace) ≡ Unfit NoPlace)
-      × (then_check (Unfit WrongVersion) Fine ≡ Unfit WrongVersion)
-      × (then_check (Unfit WrongVersion) (Unfit NoPlace) ≡ Unfit WrongVersion)
+      (then_check (Ok tt) (Ok tt) ≡ Ok tt) × (then_check (Ok tt) (Err NoPlace) ≡ Err NoPlace)
+      × (then_check (Err WrongVersion) (Ok tt) ≡ Err WrongVersion)
+      × (then_check (Err WrongVersion) (Err NoPlace) ≡ Err WrongVersion)
   -- each item's part, in order
-  pub each_part : (each suc two_items ≡ shown (5 ∷ 6 ∷ [])) × (each suc turned_down ≡ turned_down)
+  pub each_part : (each suc two_items ≡ Ok (5 ∷ 6 ∷ [])) × (each suc turned_down ≡ turned_down)

@@ -1,11 +1,9 @@
 -- Facts of def_standard: one chunk word, the range, and the standard reading's lists.
 -- RULES, "Packet and blocks", "Standard reading" and "Refusal numbers" (13).
-use Rattle.std.specs.Prelude.{ℕ, ◌≡◌, true, false, List, [], ◌∷◌, map, ltb, length, get_or}
+use Rattle.std.specs.Prelude.{ℕ, ◌≡◌, true, false, List, [], ◌∷◌, map, ltb, length, get_or, Ok, Err}
 use Rattle.def_refusals.specs.declared.Refusal.TheVariants.{ValueTooLarge, NoRoom}
-use Rattle.def_refusals.specs.declared.Answer.TheVariants.{Done, Refused}
-use Rattle.def_refusals.specs.Answers.{shown, refused, Listed}
+use Rattle.def_refusals.specs.Answers.{Listed}
 use Rattle.def_standard.specs.declared.Chunk.TheVariants.{Null, Skip, Run, Vector}
-use Rattle.def_standard.specs.declared.MadeWord.TheVariants.{Word, Unmade}
 use Rattle.def_standard.specs.declared.Range.{Range}
 use Rattle.def_standard.specs.declared.Receipt.{Receipt}
 use Rattle.def_standard.specs.declared.Echo.{Echo}
@@ -43,25 +41,25 @@ pub record ChunkWords : Type 0 where
   -- the word of a kind, up to the limit; SkipLength(0) is 0
   pub made :
       map word_of (Null ∷ Skip 0 ∷ Skip 1 ∷ Skip 16383 ∷ Run 1 ∷ Run 16383 ∷ Vector 0 ∷ Vector 32767 ∷ [])
-      ≡ Word 0 ∷ Word 0 ∷ Word 1 ∷ Word 16383 ∷ Word 16385 ∷ Word 32767 ∷ Word 32768 ∷ Word 65535 ∷ []
+      ≡ Ok 0 ∷ Ok 0 ∷ Ok 1 ∷ Ok 16383 ∷ Ok 16385 ∷ Ok 32767 ∷ Ok 32768 ∷ Ok 65535 ∷ []
   -- 13 with the value: one over the limit, and far over
   pub thirteen :
-      (word_of (Skip 16384) ≡ Unmade (ValueTooLarge 16384)) × (word_of (Run 16384) ≡ Unmade (ValueTooLarge 16384))
-      × (word_of (Vector 32768) ≡ Unmade (ValueTooLarge 32768)) × (word_of (Run 65537) ≡ Unmade (ValueTooLarge 65537))
+      (word_of (Skip 16384) ≡ Err (ValueTooLarge 16384)) × (word_of (Run 16384) ≡ Err (ValueTooLarge 16384))
+      × (word_of (Vector 32768) ≡ Err (ValueTooLarge 32768)) × (word_of (Run 65537) ≡ Err (ValueTooLarge 65537))
   -- 13 with 0: a run of ones of no length, and no other kind's 0
-  pub lost-run : map word_of (Run 0 ∷ Skip 0 ∷ Vector 0 ∷ []) ≡ Unmade (ValueTooLarge 0) ∷ Word 0 ∷ Word 32768 ∷ []
+  pub lost-run : map word_of (Run 0 ∷ Skip 0 ∷ Vector 0 ∷ []) ≡ Err (ValueTooLarge 0) ∷ Ok 0 ∷ Ok 32768 ∷ []
   -- two bytes, big-endian
   pub bytes :
-      (word_bytes (Run 2) ≡ shown (0x40 ∷ 2 ∷ [])) × (word_bytes (Run 16384) ≡ refused (ValueTooLarge 16384))
-      × (word_bytes (Run 1) ≡ shown (0x40 ∷ 1 ∷ [])) × (word_bytes (Run 0) ≡ refused (ValueTooLarge 0))
-      × (word_bytes (Skip 0) ≡ shown (0 ∷ 0 ∷ []))
+      (word_bytes (Run 2) ≡ Ok (0x40 ∷ 2 ∷ [])) × (word_bytes (Run 16384) ≡ Err (ValueTooLarge 16384))
+      × (word_bytes (Run 1) ≡ Ok (0x40 ∷ 1 ∷ [])) × (word_bytes (Run 0) ≡ Err (ValueTooLarge 0))
+      × (word_bytes (Skip 0) ≡ Ok (0 ∷ 0 ∷ []))
   -- 13 before 11; the room needed is 2
   pub into-a-buffer :
-      Listed (word_bytes (Run 2)) (8 ∷ 9 ∷ 10 ∷ []) (Done 2) (0x40 ∷ 2 ∷ 10 ∷ [])
-      × Listed (word_bytes (Run 2)) (8 ∷ []) (Refused (NoRoom 2 1)) (8 ∷ [])
-      × Listed (word_bytes (Run 16384)) [] (Refused (ValueTooLarge 16384)) []
-      × Listed (word_bytes (Run 0)) [] (Refused (ValueTooLarge 0)) []
-      × Listed (word_bytes (Run 0)) (8 ∷ 9 ∷ []) (Refused (ValueTooLarge 0)) (8 ∷ 9 ∷ [])
+      Listed (word_bytes (Run 2)) (8 ∷ 9 ∷ 10 ∷ []) (Ok 2) (0x40 ∷ 2 ∷ 10 ∷ [])
+      × Listed (word_bytes (Run 2)) (8 ∷ []) (Err (NoRoom 2 1)) (8 ∷ [])
+      × Listed (word_bytes (Run 16384)) [] (Err (ValueTooLarge 16384)) []
+      × Listed (word_bytes (Run 0)) [] (Err (ValueTooLarge 0)) []
+      × Listed (word_bytes (Run 0)) (8 ∷ 9 ∷ []) (Err (ValueTooLarge 0)) (8 ∷ 9 ∷ [])
 
 -- a number and its time
 abbrev pub pair : ℕ → ℕ → Receipt

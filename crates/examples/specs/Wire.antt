@@ -1,9 +1,8 @@
 -- Facts of def_wire's Bytes and Packet: big-endian numbers, the header and refusals 1 to 5.
 -- RULES, "Packet and blocks" and "Refusal numbers".
-use Rattle.std.specs.Prelude.{ℕ, ◌≡◌, true, false, List, [], ◌∷◌, ◌++◌}
+use Rattle.std.specs.Prelude.{ℕ, ◌≡◌, true, false, List, [], ◌∷◌, ◌++◌, Ok, Err}
 use Rattle.def_refusals.specs.declared.Refusal.TheVariants.{TooShort, WrongVersion, WrongPacketType, WrongLength}
 use Rattle.def_refusals.specs.declared.Refusal.TheVariants.{BadPadding}
-use Rattle.def_refusals.specs.declared.Answer.TheVariants.{Done, Refused}
 use Rattle.def_wire.specs.declared.Reading.TheVariants.{Standard, Crate}
 use Rattle.def_wire.specs.Bytes.{byte_at, be16, be32, be64, pair_up, words16, words32, two, four, eight}
 use Rattle.def_wire.specs.Packet.{version_of, is_padded, announced_of, padding_of, is_bad_padding, ssrc_of, header_of}
@@ -61,68 +60,68 @@ pub record HeaderParts : Type 0 where
 pub record Header : Type 0 where
   -- 1: nothing at all, and one byte less than the least
   pub too_short :
-      (header_of Standard [] ≡ Refused (TooShort 8 0)) × (header_of Crate [] ≡ Refused (TooShort 12 0))
-      × (header_of Standard (0x80 ∷ 0xcf ∷ 0 ∷ 1 ∷ 0 ∷ 0 ∷ 0 ∷ []) ≡ Refused (TooShort 8 7))
-      × (header_of Crate (packet [] ++ (0 ∷ 0 ∷ 0 ∷ [])) ≡ Refused (TooShort 12 11))
+      (header_of Standard [] ≡ Err (TooShort 8 0)) × (header_of Crate [] ≡ Err (TooShort 12 0))
+      × (header_of Standard (0x80 ∷ 0xcf ∷ 0 ∷ 1 ∷ 0 ∷ 0 ∷ 0 ∷ []) ≡ Err (TooShort 8 7))
+      × (header_of Crate (packet [] ++ (0 ∷ 0 ∷ 0 ∷ [])) ≡ Err (TooShort 12 11))
   -- the least itself: 8 bytes for the standard, which are 1 for the crate, whose least is 12
   pub the-least :
-      (header_of Standard (packet []) ≡ Done 8) × (header_of Crate (packet []) ≡ Refused (TooShort 12 8))
-      × (header_of Crate (packet (0 ∷ [])) ≡ Done 12)
+      (header_of Standard (packet []) ≡ Ok 8) × (header_of Crate (packet []) ≡ Err (TooShort 12 8))
+      × (header_of Crate (packet (0 ∷ [])) ≡ Ok 12)
   -- 8 to 11 bytes: the standard goes on to 2, 3, 4, 5, and the crate says 1
   pub eight-to-eleven :
-      (header_of Standard (rows (0x40cf0001 ∷ 1 ∷ [])) ≡ Refused WrongVersion)
-      × (header_of Standard (packet [] ++ (0 ∷ 0 ∷ 0 ∷ [])) ≡ Refused (WrongLength 8 11))
-      × (header_of Standard (rows (0xa0cf0001 ∷ 4 ∷ [])) ≡ Refused (BadPadding 4))
-      × (header_of Crate (rows (0x40ce0009 ∷ 1 ∷ [])) ≡ Refused (TooShort 12 8))
-      × (header_of Crate (rows (0xa0cf0001 ∷ 4 ∷ [])) ≡ Refused (TooShort 12 8))
+      (header_of Standard (rows (0x40cf0001 ∷ 1 ∷ [])) ≡ Err WrongVersion)
+      × (header_of Standard (packet [] ++ (0 ∷ 0 ∷ 0 ∷ [])) ≡ Err (WrongLength 8 11))
+      × (header_of Standard (rows (0xa0cf0001 ∷ 4 ∷ [])) ≡ Err (BadPadding 4))
+      × (header_of Crate (rows (0x40ce0009 ∷ 1 ∷ [])) ≡ Err (TooShort 12 8))
+      × (header_of Crate (rows (0xa0cf0001 ∷ 4 ∷ [])) ≡ Err (TooShort 12 8))
   -- 1 before 2
-  pub one-first : header_of Standard (0x40 ∷ 0xce ∷ 0 ∷ []) ≡ Refused (TooShort 8 3)
+  pub one-first : header_of Standard (0x40 ∷ 0xce ∷ 0 ∷ []) ≡ Err (TooShort 8 3)
   -- 2: versions 0, 1 and 3, in both readings
   pub wrong-version :
-      (header_of Standard (rows (0x00cf0002 ∷ 1 ∷ 0 ∷ [])) ≡ Refused WrongVersion)
-      × (header_of Standard (rows (0x40cf0002 ∷ 1 ∷ 0 ∷ [])) ≡ Refused WrongVersion)
-      × (header_of Crate (rows (0xc0cf0002 ∷ 1 ∷ 0 ∷ [])) ≡ Refused WrongVersion)
+      (header_of Standard (rows (0x00cf0002 ∷ 1 ∷ 0 ∷ [])) ≡ Err WrongVersion)
+      × (header_of Standard (rows (0x40cf0002 ∷ 1 ∷ 0 ∷ [])) ≡ Err WrongVersion)
+      × (header_of Crate (rows (0xc0cf0002 ∷ 1 ∷ 0 ∷ [])) ≡ Err WrongVersion)
   -- 2 before 3, and before 4
   pub two-first :
-      (header_of Standard (rows (0x40ce0002 ∷ 1 ∷ 0 ∷ [])) ≡ Refused WrongVersion)
-      × (header_of Crate (rows (0x40cf0009 ∷ 1 ∷ 0 ∷ [])) ≡ Refused WrongVersion)
+      (header_of Standard (rows (0x40ce0002 ∷ 1 ∷ 0 ∷ [])) ≡ Err WrongVersion)
+      × (header_of Crate (rows (0x40cf0009 ∷ 1 ∷ 0 ∷ [])) ≡ Err WrongVersion)
   -- 3: 206, 208 and 200, in both readings
   pub wrong_type :
-      (header_of Standard (rows (0x80ce0002 ∷ 1 ∷ 0 ∷ [])) ≡ Refused WrongPacketType)
-      × (header_of Standard (rows (0x80d00002 ∷ 1 ∷ 0 ∷ [])) ≡ Refused WrongPacketType)
-      × (header_of Crate (rows (0x80c80002 ∷ 1 ∷ 0 ∷ [])) ≡ Refused WrongPacketType)
+      (header_of Standard (rows (0x80ce0002 ∷ 1 ∷ 0 ∷ [])) ≡ Err WrongPacketType)
+      × (header_of Standard (rows (0x80d00002 ∷ 1 ∷ 0 ∷ [])) ≡ Err WrongPacketType)
+      × (header_of Crate (rows (0x80c80002 ∷ 1 ∷ 0 ∷ [])) ≡ Err WrongPacketType)
   -- 3 before 4, and before 5
   pub three-first :
-      (header_of Standard (rows (0x80ce0009 ∷ 1 ∷ 0 ∷ [])) ≡ Refused WrongPacketType)
-      × (header_of Crate (rows (0xa0ce0002 ∷ 1 ∷ 0 ∷ [])) ≡ Refused WrongPacketType)
+      (header_of Standard (rows (0x80ce0009 ∷ 1 ∷ 0 ∷ [])) ≡ Err WrongPacketType)
+      × (header_of Crate (rows (0xa0ce0002 ∷ 1 ∷ 0 ∷ [])) ≡ Err WrongPacketType)
   -- 4: a word more and a word less announced, and a byte more than announced
   pub wrong-length :
-      (header_of Standard (rows (0x80cf0003 ∷ 1 ∷ 0 ∷ [])) ≡ Refused (WrongLength 16 12))
-      × (header_of Crate (rows (0x80cf0001 ∷ 1 ∷ 0 ∷ [])) ≡ Refused (WrongLength 8 12))
-      × (header_of Crate (packet (0 ∷ []) ++ (0 ∷ [])) ≡ Refused (WrongLength 12 13))
+      (header_of Standard (rows (0x80cf0003 ∷ 1 ∷ 0 ∷ [])) ≡ Err (WrongLength 16 12))
+      × (header_of Crate (rows (0x80cf0001 ∷ 1 ∷ 0 ∷ [])) ≡ Err (WrongLength 8 12))
+      × (header_of Crate (packet (0 ∷ []) ++ (0 ∷ [])) ≡ Err (WrongLength 12 13))
   -- 4 before 5
   pub four-first :
-      (header_of Standard (rows (0xa0cf0003 ∷ 1 ∷ 0 ∷ [])) ≡ Refused (WrongLength 16 12))
-      × (header_of Crate (rows (0xa0cf0003 ∷ 1 ∷ 0 ∷ [])) ≡ Refused (WrongLength 16 12))
+      (header_of Standard (rows (0xa0cf0003 ∷ 1 ∷ 0 ∷ [])) ≡ Err (WrongLength 16 12))
+      × (header_of Crate (rows (0xa0cf0003 ∷ 1 ∷ 0 ∷ [])) ≡ Err (WrongLength 16 12))
   -- 5 in both readings: 0, 1, no multiple of 4, over the length less 8
   pub bad-padding :
-      (header_of Standard (padded (0 ∷ 0 ∷ [])) ≡ Refused (BadPadding 0))
-      × (header_of Crate (padded (0 ∷ 0 ∷ [])) ≡ Refused (BadPadding 0))
-      × (header_of Standard (padded (1 ∷ 1 ∷ [])) ≡ Refused (BadPadding 1))
-      × (header_of Crate (padded (1 ∷ 1 ∷ [])) ≡ Refused (BadPadding 1))
-      × (header_of Standard (padded (1 ∷ [])) ≡ Refused (BadPadding 1))
-      × (header_of Crate (padded (1 ∷ [])) ≡ Refused (BadPadding 1))
-      × (header_of Standard (padded (0 ∷ 6 ∷ [])) ≡ Refused (BadPadding 6))
-      × (header_of Crate (padded (0 ∷ 12 ∷ [])) ≡ Refused (BadPadding 12))
+      (header_of Standard (padded (0 ∷ 0 ∷ [])) ≡ Err (BadPadding 0))
+      × (header_of Crate (padded (0 ∷ 0 ∷ [])) ≡ Err (BadPadding 0))
+      × (header_of Standard (padded (1 ∷ 1 ∷ [])) ≡ Err (BadPadding 1))
+      × (header_of Crate (padded (1 ∷ 1 ∷ [])) ≡ Err (BadPadding 1))
+      × (header_of Standard (padded (1 ∷ [])) ≡ Err (BadPadding 1))
+      × (header_of Crate (padded (1 ∷ [])) ≡ Err (BadPadding 1))
+      × (header_of Standard (padded (0 ∷ 6 ∷ [])) ≡ Err (BadPadding 6))
+      × (header_of Crate (padded (0 ∷ 12 ∷ [])) ≡ Err (BadPadding 12))
   -- blocks end N bytes earlier for the standard alone; N may be all that stands behind the first 8 bytes
   pub stop :
-      (header_of Standard (padded (0 ∷ 4 ∷ [])) ≡ Done 12) × (header_of Crate (padded (0 ∷ 4 ∷ [])) ≡ Done 16)
-      × (header_of Standard (padded (0 ∷ 8 ∷ [])) ≡ Done 8) × (header_of Crate (padded (0 ∷ 8 ∷ [])) ≡ Done 16)
+      (header_of Standard (padded (0 ∷ 4 ∷ [])) ≡ Ok 12) × (header_of Crate (padded (0 ∷ 4 ∷ [])) ≡ Ok 16)
+      × (header_of Standard (padded (0 ∷ 8 ∷ [])) ≡ Ok 8) × (header_of Crate (padded (0 ∷ 8 ∷ [])) ≡ Ok 16)
   -- without P the last byte is no padding count
   pub not-padded :
-      (header_of Standard (packet (0 ∷ 4 ∷ [])) ≡ Done 16) × (header_of Standard (packet (0 ∷ 3 ∷ [])) ≡ Done 16)
-      × (header_of Crate (packet (0 ∷ 3 ∷ [])) ≡ Done 16)
+      (header_of Standard (packet (0 ∷ 4 ∷ [])) ≡ Ok 16) × (header_of Standard (packet (0 ∷ 3 ∷ [])) ≡ Ok 16)
+      × (header_of Crate (packet (0 ∷ 3 ∷ [])) ≡ Ok 16)
   -- the unused bits are not looked at
   pub unused-bits :
-      (header_of Standard (rows (0x9fcf0001 ∷ 1 ∷ [])) ≡ Done 8)
-      × (header_of Crate (rows (0x9fcf0002 ∷ 1 ∷ 3 ∷ [])) ≡ Done 12)
+      (header_of Standard (rows (0x9fcf0001 ∷ 1 ∷ [])) ≡ Ok 8)
+      × (header_of Crate (rows (0x9fcf0002 ∷ 1 ∷ 3 ∷ [])) ≡ Ok 12)

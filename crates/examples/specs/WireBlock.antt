@@ -1,18 +1,12 @@
 -- Facts of def_wire's Block: header bytes, kinds by their numbers, length rules, the run of no length, refusals 10, 7
 -- and 8.
 -- RULES, "Packet and blocks", "Standard reading", "Crate reading" and "Refusal numbers".
-use Rattle.std.specs.Prelude.{ℕ, ◌+◌, ◌≡◌, true, false, List, [], ◌∷◌, ◌++◌, map, length}
+use Rattle.std.specs.Prelude.{ℕ, ◌+◌, ◌≡◌, true, false, List, [], ◌∷◌, ◌++◌, map, length, Ok, Err, Some, None}
 use Rattle.def_refusals.specs.declared.Refusal.TheVariants.{OtherType, BadBlockLength, NoFields}
-use Rattle.def_refusals.specs.declared.Checked.TheVariants.{Fine, Unfit}
 use Rattle.def_wire.specs.declared.Reading.TheVariants.{Standard, Crate}
 use Rattle.def_wire.specs.declared.Rle.TheVariants.{Loss, Duplicate}
 use Rattle.def_wire.specs.declared.Ranged.TheVariants.{Chunks, Times}
 use Rattle.def_wire.specs.declared.Kind.TheVariants.{Spans, Clock, Echoes, Statistics}
-use Rattle.def_wire.specs.declared.RleOr.TheVariants.{AnRle, NoRle}
-use Rattle.def_wire.specs.declared.RangedOr.TheVariants.{ARange, NoRange}
-use Rattle.def_wire.specs.declared.KindOr.TheVariants.{AKind, NoKind}
-use Rattle.def_wire.specs.declared.FieldsOr.TheVariants.{Shown, NoneOf}
-use Rattle.def_wire.specs.declared.TimeOr.TheVariants.{Time, NoTime}
 use Rattle.def_wire.specs.Block.{header_data, type_of, specific_of, block_length, fields_at, time_at, kind_type}
 use Rattle.def_wire.specs.Block.{rle_of, ranged_of, kind_of, kind_in, rule, next_fit, standard_rule, crate_rule, fitness}
 use Rattle.def_wire.specs.Block.{check_of, is_cut, fields_of, time_of, words_at, lost_run, has, clear_rule, word_rule}
@@ -29,22 +23,22 @@ pub record Kinds : Type 0 where
       × (kind_type Clock ≡ 4) × (kind_type Echoes ≡ 5) × (kind_type Statistics ≡ 6)
   pub rle :
       map rle_of asked
-      ≡ NoRle ∷ AnRle Loss ∷ AnRle Duplicate ∷ NoRle ∷ NoRle ∷ NoRle ∷ NoRle ∷ NoRle ∷ NoRle ∷ NoRle ∷ NoRle
-      ∷ NoRle ∷ NoRle ∷ []
+      ≡ None ∷ Some Loss ∷ Some Duplicate ∷ None ∷ None ∷ None ∷ None ∷ None ∷ None ∷ None ∷ None
+      ∷ None ∷ None ∷ []
   pub ranged :
       map ranged_of asked
-      ≡ NoRange ∷ ARange (Chunks Loss) ∷ ARange (Chunks Duplicate) ∷ ARange Times ∷ NoRange ∷ NoRange ∷ NoRange
-      ∷ NoRange ∷ NoRange ∷ NoRange ∷ NoRange ∷ NoRange ∷ NoRange ∷ []
+      ≡ None ∷ Some (Chunks Loss) ∷ Some (Chunks Duplicate) ∷ Some Times ∷ None ∷ None ∷ None
+      ∷ None ∷ None ∷ None ∷ None ∷ None ∷ None ∷ []
   pub kinds :
       map kind_of asked
-      ≡ NoKind ∷ AKind (Spans (Chunks Loss)) ∷ AKind (Spans (Chunks Duplicate)) ∷ AKind (Spans Times) ∷ AKind Clock
-      ∷ AKind Echoes ∷ AKind Statistics ∷ NoKind ∷ NoKind ∷ NoKind ∷ NoKind ∷ NoKind ∷ NoKind ∷ []
+      ≡ None ∷ Some (Spans (Chunks Loss)) ∷ Some (Spans (Chunks Duplicate)) ∷ Some (Spans Times) ∷ Some Clock
+      ∷ Some Echoes ∷ Some Statistics ∷ None ∷ None ∷ None ∷ None ∷ None ∷ None ∷ []
   -- the standard knows all of these, the crate all but type 6
   pub to-the-standard : map (kind_in Standard) asked ≡ map kind_of asked
   pub to-the-crate :
       map (kind_in Crate) asked
-      ≡ NoKind ∷ AKind (Spans (Chunks Loss)) ∷ AKind (Spans (Chunks Duplicate)) ∷ AKind (Spans Times) ∷ AKind Clock
-      ∷ AKind Echoes ∷ NoKind ∷ NoKind ∷ NoKind ∷ NoKind ∷ NoKind ∷ NoKind ∷ NoKind ∷ []
+      ≡ None ∷ Some (Spans (Chunks Loss)) ∷ Some (Spans (Chunks Duplicate)) ∷ Some (Spans Times) ∷ Some Clock
+      ∷ Some Echoes ∷ None ∷ None ∷ None ∷ None ∷ None ∷ None ∷ None ∷ []
 
 -- a type 1 block of 16 bytes: specific byte 0xf2, every field's bytes different
 abbrev pub a-loss : List ℕ
@@ -69,59 +63,59 @@ pub record Parts : Type 0 where
   pub of-time : time_at a-clock ≡ record { 0 = 0x0102030405060708 }
 
 pub record LengthRules : Type 0 where
-  pub holds : (rule true 12 8 ≡ Fine) × (rule false 12 8 ≡ Unfit (BadBlockLength 12 8))
+  pub holds : (rule true 12 8 ≡ Ok tt) × (rule false 12 8 ≡ Err (BadBlockLength 12 8))
   -- the least length from l on with l - 4 divisible by 12
   pub next-fitting :
       map next_fit (4 ∷ 8 ∷ 12 ∷ 16 ∷ 20 ∷ 24 ∷ 28 ∷ 32 ∷ []) ≡ 4 ∷ 16 ∷ 16 ∷ 16 ∷ 28 ∷ 28 ∷ 28 ∷ 40 ∷ []
   -- standard, types 1 to 3: L ≥ 12
   pub standard-spans :
-      (standard_rule (Spans (Chunks Loss)) 8 ≡ Unfit (BadBlockLength 12 8))
-      × (standard_rule (Spans (Chunks Loss)) 12 ≡ Fine)
-      × (standard_rule (Spans (Chunks Duplicate)) 4 ≡ Unfit (BadBlockLength 12 4))
-      × (standard_rule (Spans Times) 8 ≡ Unfit (BadBlockLength 12 8)) × (standard_rule (Spans Times) 16 ≡ Fine)
+      (standard_rule (Spans (Chunks Loss)) 8 ≡ Err (BadBlockLength 12 8))
+      × (standard_rule (Spans (Chunks Loss)) 12 ≡ Ok tt)
+      × (standard_rule (Spans (Chunks Duplicate)) 4 ≡ Err (BadBlockLength 12 4))
+      × (standard_rule (Spans Times) 8 ≡ Err (BadBlockLength 12 8)) × (standard_rule (Spans Times) 16 ≡ Ok tt)
   -- type 4: L = 12
   pub standard-clock :
-      (standard_rule Clock 8 ≡ Unfit (BadBlockLength 12 8)) × (standard_rule Clock 12 ≡ Fine)
-      × (standard_rule Clock 16 ≡ Unfit (BadBlockLength 12 16))
+      (standard_rule Clock 8 ≡ Err (BadBlockLength 12 8)) × (standard_rule Clock 12 ≡ Ok tt)
+      × (standard_rule Clock 16 ≡ Err (BadBlockLength 12 16))
   -- type 5: L - 4 divisible by 12; else the next fitting length and L
   pub standard-echoes :
-      (standard_rule Echoes 4 ≡ Fine) × (standard_rule Echoes 8 ≡ Unfit (BadBlockLength 16 8))
-      × (standard_rule Echoes 12 ≡ Unfit (BadBlockLength 16 12)) × (standard_rule Echoes 16 ≡ Fine)
-      × (standard_rule Echoes 20 ≡ Unfit (BadBlockLength 28 20))
-      × (standard_rule Echoes 24 ≡ Unfit (BadBlockLength 28 24))
-      × (standard_rule Echoes 28 ≡ Fine)
+      (standard_rule Echoes 4 ≡ Ok tt) × (standard_rule Echoes 8 ≡ Err (BadBlockLength 16 8))
+      × (standard_rule Echoes 12 ≡ Err (BadBlockLength 16 12)) × (standard_rule Echoes 16 ≡ Ok tt)
+      × (standard_rule Echoes 20 ≡ Err (BadBlockLength 28 20))
+      × (standard_rule Echoes 24 ≡ Err (BadBlockLength 28 24))
+      × (standard_rule Echoes 28 ≡ Ok tt)
   -- type 6: L = 40
   pub standard-summary :
-      (standard_rule Statistics 36 ≡ Unfit (BadBlockLength 40 36)) × (standard_rule Statistics 40 ≡ Fine)
-      × (standard_rule Statistics 44 ≡ Unfit (BadBlockLength 40 44))
-      × (standard_rule Statistics 4 ≡ Unfit (BadBlockLength 40 4))
+      (standard_rule Statistics 36 ≡ Err (BadBlockLength 40 36)) × (standard_rule Statistics 40 ≡ Ok tt)
+      × (standard_rule Statistics 44 ≡ Err (BadBlockLength 40 44))
+      × (standard_rule Statistics 4 ≡ Err (BadBlockLength 40 4))
   -- crate, types 1 and 2: L ≥ 12, whatever is left; 12 and L
   pub crate-chunks :
-      (crate_rule (Spans (Chunks Loss)) 8 40 ≡ Unfit (BadBlockLength 12 8))
-      × (crate_rule (Spans (Chunks Loss)) 12 12 ≡ Fine)
-      × (crate_rule (Spans (Chunks Duplicate)) 4 40 ≡ Unfit (BadBlockLength 12 4))
+      (crate_rule (Spans (Chunks Loss)) 8 40 ≡ Err (BadBlockLength 12 8))
+      × (crate_rule (Spans (Chunks Loss)) 12 12 ≡ Ok tt)
+      × (crate_rule (Spans (Chunks Duplicate)) 4 40 ≡ Err (BadBlockLength 12 4))
   -- type 3 checks no length
-  pub crate-times : (crate_rule (Spans Times) 4 4 ≡ Fine) × (crate_rule (Spans Times) 8 8 ≡ Fine)
+  pub crate-times : (crate_rule (Spans Times) 4 4 ≡ Ok tt) × (crate_rule (Spans Times) 8 8 ≡ Ok tt)
   -- type 4: left ≥ 12, whatever L is; 12 and left
   pub crate-clock :
-      (crate_rule Clock 4 8 ≡ Unfit (BadBlockLength 12 8)) × (crate_rule Clock 4 12 ≡ Fine)
-      × (crate_rule Clock 16 20 ≡ Fine)
+      (crate_rule Clock 4 8 ≡ Err (BadBlockLength 12 8)) × (crate_rule Clock 4 12 ≡ Ok tt)
+      × (crate_rule Clock 16 20 ≡ Ok tt)
   -- type 5: left ≥ 16 first, with 16 and left; then L divisible by 16, with L + L mod 16 and left
   pub crate-echoes :
-      (crate_rule Echoes 4 12 ≡ Unfit (BadBlockLength 16 12)) × (crate_rule Echoes 16 12 ≡ Unfit (BadBlockLength 16 12))
-      × (crate_rule Echoes 16 16 ≡ Fine) × (crate_rule Echoes 12 16 ≡ Unfit (BadBlockLength 24 16))
-      × (crate_rule Echoes 4 20 ≡ Unfit (BadBlockLength 8 20))
-      × (crate_rule Echoes 28 28 ≡ Unfit (BadBlockLength 40 28))
-      × (crate_rule Echoes 32 40 ≡ Fine)
+      (crate_rule Echoes 4 12 ≡ Err (BadBlockLength 16 12)) × (crate_rule Echoes 16 12 ≡ Err (BadBlockLength 16 12))
+      × (crate_rule Echoes 16 16 ≡ Ok tt) × (crate_rule Echoes 12 16 ≡ Err (BadBlockLength 24 16))
+      × (crate_rule Echoes 4 20 ≡ Err (BadBlockLength 8 20))
+      × (crate_rule Echoes 28 28 ≡ Err (BadBlockLength 40 28))
+      × (crate_rule Echoes 32 40 ≡ Ok tt)
   -- type 6: 10 with 6, whatever its lengths are
   pub crate-summary :
-      (crate_rule Statistics 40 40 ≡ Unfit (OtherType 6)) × (crate_rule Statistics 4 60 ≡ Unfit (OtherType 6))
+      (crate_rule Statistics 40 40 ≡ Err (OtherType 6)) × (crate_rule Statistics 4 60 ≡ Err (OtherType 6))
   -- the crate's L comes from the length field, and left is all of the view
   pub of-a-view :
-      (fitness Standard Clock (rows (0x04000003 ∷ 0 ∷ 0 ∷ 0 ∷ [])) ≡ Unfit (BadBlockLength 12 16))
-      × (fitness Crate Clock (rows (0x04000003 ∷ 0 ∷ 0 ∷ 0 ∷ [])) ≡ Fine)
-      × (fitness Crate Echoes (rows (0x05000000 ∷ 0x04000002 ∷ 0 ∷ 0 ∷ 0 ∷ [])) ≡ Unfit (BadBlockLength 8 20))
-      × (fitness Crate (Spans (Chunks Loss)) (rows (0x01000001 ∷ 0 ∷ 0 ∷ 0 ∷ [])) ≡ Unfit (BadBlockLength 12 8))
+      (fitness Standard Clock (rows (0x04000003 ∷ 0 ∷ 0 ∷ 0 ∷ [])) ≡ Err (BadBlockLength 12 16))
+      × (fitness Crate Clock (rows (0x04000003 ∷ 0 ∷ 0 ∷ 0 ∷ [])) ≡ Ok tt)
+      × (fitness Crate Echoes (rows (0x05000000 ∷ 0x04000002 ∷ 0 ∷ 0 ∷ 0 ∷ [])) ≡ Err (BadBlockLength 8 20))
+      × (fitness Crate (Spans (Chunks Loss)) (rows (0x01000001 ∷ 0 ∷ 0 ∷ 0 ∷ [])) ≡ Err (BadBlockLength 12 8))
 
 -- a type 1 and a type 2 block with words, two to a row; every field is 16384, twice
 abbrev pub loss-with : List ℕ → List ℕ
@@ -144,71 +138,71 @@ pub record LostRuns : Type 0 where
       × (has 5 (6 ∷ []) ≡ false)
   -- the length given goes with it
   pub of_words :
-      (clear_rule 16 [] ≡ Fine) × (clear_rule 16 (16384 ∷ []) ≡ Unfit (BadBlockLength 12 16))
-      × (clear_rule 20 (16385 ∷ 16384 ∷ 0 ∷ []) ≡ Unfit (BadBlockLength 12 20))
-      × (clear_rule 12 (1 ∷ 16384 ∷ []) ≡ Unfit (BadBlockLength 12 12))
+      (clear_rule 16 [] ≡ Ok tt) × (clear_rule 16 (16384 ∷ []) ≡ Err (BadBlockLength 12 16))
+      × (clear_rule 20 (16385 ∷ 16384 ∷ 0 ∷ []) ≡ Err (BadBlockLength 12 20))
+      × (clear_rule 12 (1 ∷ 16384 ∷ []) ≡ Err (BadBlockLength 12 12))
   -- its neighbours, its bytes exchanged, its bits moved, with the top bit too, and nothing
-  pub other-words : clear_rule 16 (16383 ∷ 16385 ∷ 64 ∷ 8192 ∷ 32768 ∷ 49152 ∷ 0 ∷ []) ≡ Fine
+  pub other-words : clear_rule 16 (16383 ∷ 16385 ∷ 64 ∷ 8192 ∷ 32768 ∷ 49152 ∷ 0 ∷ []) ≡ Ok tt
   -- of types 1 and 2 alone
   pub of-kinds :
-      (word_rule (Spans (Chunks Loss)) 16 (loss-with (0x40004001 ∷ [])) ≡ Unfit (BadBlockLength 12 16))
-      × (word_rule (Spans (Chunks Duplicate)) 16 (loss-with (0x40004001 ∷ [])) ≡ Unfit (BadBlockLength 12 16))
-      × (word_rule (Spans Times) 16 (loss-with (0x40004001 ∷ [])) ≡ Fine)
-      × (word_rule Clock 16 (loss-with (0x40004001 ∷ [])) ≡ Fine)
-      × (word_rule Echoes 16 (loss-with (0x40004001 ∷ [])) ≡ Fine)
-      × (word_rule Statistics 16 (loss-with (0x40004001 ∷ [])) ≡ Fine)
+      (word_rule (Spans (Chunks Loss)) 16 (loss-with (0x40004001 ∷ [])) ≡ Err (BadBlockLength 12 16))
+      × (word_rule (Spans (Chunks Duplicate)) 16 (loss-with (0x40004001 ∷ [])) ≡ Err (BadBlockLength 12 16))
+      × (word_rule (Spans Times) 16 (loss-with (0x40004001 ∷ [])) ≡ Ok tt)
+      × (word_rule Clock 16 (loss-with (0x40004001 ∷ [])) ≡ Ok tt)
+      × (word_rule Echoes 16 (loss-with (0x40004001 ∷ [])) ≡ Ok tt)
+      × (word_rule Statistics 16 (loss-with (0x40004001 ∷ [])) ≡ Ok tt)
   -- the first word, one in the middle, the last, the only one that is not 0
   pub refusal :
-      (fitness Standard (Spans (Chunks Loss)) (loss-with (0x40004001 ∷ [])) ≡ Unfit (BadBlockLength 12 16))
+      (fitness Standard (Spans (Chunks Loss)) (loss-with (0x40004001 ∷ [])) ≡ Err (BadBlockLength 12 16))
       × (fitness Standard (Spans (Chunks Loss)) (loss-with (0x40014001 ∷ 0x40004001 ∷ 0x40014001 ∷ []))
-      ≡ Unfit (BadBlockLength 12 24))
+      ≡ Err (BadBlockLength 12 24))
       × (fitness Standard (Spans (Chunks Loss)) (loss-with (0x40014001 ∷ 0x40014000 ∷ []))
-      ≡ Unfit (BadBlockLength 12 20))
-      × (fitness Standard (Spans (Chunks Duplicate)) (duplicate-with (0x40000000 ∷ [])) ≡ Unfit (BadBlockLength 12 16))
-      × (fitness Standard (Spans (Chunks Duplicate)) (duplicate-with (0x00004000 ∷ [])) ≡ Unfit (BadBlockLength 12 16))
+      ≡ Err (BadBlockLength 12 20))
+      × (fitness Standard (Spans (Chunks Duplicate)) (duplicate-with (0x40000000 ∷ [])) ≡ Err (BadBlockLength 12 16))
+      × (fitness Standard (Spans (Chunks Duplicate)) (duplicate-with (0x00004000 ∷ [])) ≡ Err (BadBlockLength 12 16))
   -- where the words before it have covered the range, from 10 to 11
   pub past-the-range :
       fitness Standard (Spans (Chunks Loss)) (rows (0x01000004 ∷ 7 ∷ 0x000a000b ∷ 0x7fff7fff ∷ 0x40014000 ∷ []))
-      ≡ Unfit (BadBlockLength 12 20)
+      ≡ Err (BadBlockLength 12 20)
   -- every field may be 16384; its bytes may stand across two words, or across the fields and the first word
   pub not-a-word :
-      (fitness Standard (Spans (Chunks Loss)) (loss-with []) ≡ Fine)
-      × (fitness Standard (Spans (Chunks Loss)) (loss-with (0x40014001 ∷ [])) ≡ Fine)
-      × (fitness Standard (Spans (Chunks Loss)) (loss-with (0x01400002 ∷ [])) ≡ Fine)
-      × (fitness Standard (Spans (Chunks Duplicate)) (duplicate-with (0x00400000 ∷ 0x00400001 ∷ [])) ≡ Fine)
-      × (fitness Standard (Spans (Chunks Loss)) (rows (0x01400003 ∷ 7 ∷ 0x000a0040 ∷ 0x00010002 ∷ [])) ≡ Fine)
+      (fitness Standard (Spans (Chunks Loss)) (loss-with []) ≡ Ok tt)
+      × (fitness Standard (Spans (Chunks Loss)) (loss-with (0x40014001 ∷ [])) ≡ Ok tt)
+      × (fitness Standard (Spans (Chunks Loss)) (loss-with (0x01400002 ∷ [])) ≡ Ok tt)
+      × (fitness Standard (Spans (Chunks Duplicate)) (duplicate-with (0x00400000 ∷ 0x00400001 ∷ [])) ≡ Ok tt)
+      × (fitness Standard (Spans (Chunks Loss)) (rows (0x01400003 ∷ 7 ∷ 0x000a0040 ∷ 0x00010002 ∷ [])) ≡ Ok tt)
   -- L is the length of what is given, not the length field's; by length first
   pub by_length :
       (fitness Standard (Spans (Chunks Loss)) (rows (0x01000005 ∷ 7 ∷ 0 ∷ 0x40004001 ∷ []))
-      ≡ Unfit (BadBlockLength 12 16))
-      × (fitness Standard (Spans (Chunks Loss)) (rows (0x01000001 ∷ 0x40004000 ∷ [])) ≡ Unfit (BadBlockLength 12 8))
+      ≡ Err (BadBlockLength 12 16))
+      × (fitness Standard (Spans (Chunks Loss)) (rows (0x01000001 ∷ 0x40004000 ∷ [])) ≡ Err (BadBlockLength 12 8))
   -- times, a clock and entries of 16384 are what they are
   pub other-kinds :
-      (fitness Standard (Spans Times) (rows (0x03000004 ∷ 7 ∷ 0x00050009 ∷ 0x40004000 ∷ 16384 ∷ [])) ≡ Fine)
-      × (fitness Standard Clock (rows (0x04000002 ∷ 0x40004000 ∷ 0x40004000 ∷ [])) ≡ Fine)
-      × (fitness Standard Echoes (rows (0x05000006 ∷ 1 ∷ 2 ∷ 0x40004000 ∷ 0x40004000 ∷ 16384 ∷ 16384 ∷ [])) ≡ Fine)
+      (fitness Standard (Spans Times) (rows (0x03000004 ∷ 7 ∷ 0x00050009 ∷ 0x40004000 ∷ 16384 ∷ [])) ≡ Ok tt)
+      × (fitness Standard Clock (rows (0x04000002 ∷ 0x40004000 ∷ 0x40004000 ∷ [])) ≡ Ok tt)
+      × (fitness Standard Echoes (rows (0x05000006 ∷ 1 ∷ 2 ∷ 0x40004000 ∷ 0x40004000 ∷ 16384 ∷ 16384 ∷ [])) ≡ Ok tt)
   -- their own rules are as they were
   pub other-rules :
-      (fitness Standard (Spans Times) (rows (0x03000001 ∷ 0x40004000 ∷ [])) ≡ Unfit (BadBlockLength 12 8))
-      × (fitness Standard Clock (rows (0x04000003 ∷ 1 ∷ 2 ∷ 0x40004000 ∷ [])) ≡ Unfit (BadBlockLength 12 16))
-      × (fitness Standard Echoes (rows (0x05000004 ∷ 1 ∷ 2 ∷ 3 ∷ 0x40004000 ∷ [])) ≡ Unfit (BadBlockLength 28 20))
+      (fitness Standard (Spans Times) (rows (0x03000001 ∷ 0x40004000 ∷ [])) ≡ Err (BadBlockLength 12 8))
+      × (fitness Standard Clock (rows (0x04000003 ∷ 1 ∷ 2 ∷ 0x40004000 ∷ [])) ≡ Err (BadBlockLength 12 16))
+      × (fitness Standard Echoes (rows (0x05000004 ∷ 1 ∷ 2 ∷ 3 ∷ 0x40004000 ∷ [])) ≡ Err (BadBlockLength 28 20))
   -- the crate takes the word
   pub by-the-crate :
-      (fitness Crate (Spans (Chunks Loss)) (loss-with (0x40004001 ∷ [])) ≡ Fine)
-      × (fitness Crate (Spans (Chunks Duplicate)) (duplicate-with (0x40014000 ∷ 0x40000000 ∷ [])) ≡ Fine)
+      (fitness Crate (Spans (Chunks Loss)) (loss-with (0x40004001 ∷ [])) ≡ Ok tt)
+      × (fitness Crate (Spans (Chunks Duplicate)) (duplicate-with (0x40014000 ∷ 0x40000000 ∷ [])) ≡ Ok tt)
   -- 10 first
   pub checked :
-      (check_of Standard (Spans (Chunks Loss)) (loss-with (0x40004001 ∷ [])) ≡ Unfit (BadBlockLength 12 16))
-      × (check_of Standard (Spans (Chunks Duplicate)) (loss-with (0x40004001 ∷ [])) ≡ Unfit (OtherType 1))
-      × (check_of Standard (Spans (Chunks Loss)) (duplicate-with (0x40004001 ∷ [])) ≡ Unfit (OtherType 2))
-      × (check_of Standard (Spans Times) (loss-with (0x40004001 ∷ [])) ≡ Unfit (OtherType 1))
-      × (check_of Crate (Spans (Chunks Loss)) (loss-with (0x40004001 ∷ [])) ≡ Fine)
+      (check_of Standard (Spans (Chunks Loss)) (loss-with (0x40004001 ∷ [])) ≡ Err (BadBlockLength 12 16))
+      × (check_of Standard (Spans (Chunks Duplicate)) (loss-with (0x40004001 ∷ [])) ≡ Err (OtherType 1))
+      × (check_of Standard (Spans (Chunks Loss)) (duplicate-with (0x40004001 ∷ [])) ≡ Err (OtherType 2))
+      × (check_of Standard (Spans Times) (loss-with (0x40004001 ∷ [])) ≡ Err (OtherType 1))
+      × (check_of Crate (Spans (Chunks Loss)) (loss-with (0x40004001 ∷ [])) ≡ Ok tt)
   -- its fields are not shown either
   pub no_fields :
-      (fields_of Standard (Chunks Loss) (loss-with (0x40014000 ∷ [])) ≡ NoneOf (BadBlockLength 12 16))
-      × (fields_of Standard (Chunks Duplicate) (duplicate-with (0x40004001 ∷ [])) ≡ NoneOf (BadBlockLength 12 16))
+      (fields_of Standard (Chunks Loss) (loss-with (0x40014000 ∷ [])) ≡ Err (BadBlockLength 12 16))
+      × (fields_of Standard (Chunks Duplicate) (duplicate-with (0x40004001 ∷ [])) ≡ Err (BadBlockLength 12 16))
       × (fields_of Crate (Chunks Loss) (loss-with (0x40014000 ∷ []))
-      ≡ Shown (fields 0x40004000 0x4000 0x4000 0))
+      ≡ Ok (fields 0x40004000 0x4000 0x4000 0))
 
 -- a type 1 block that is too short, and a type 2 block of the same bytes
 abbrev pub short-loss : List ℕ
@@ -217,19 +211,19 @@ short-loss = rows (0x01000001 ∷ 7 ∷ [])
 pub record Checks : Type 0 where
   -- 10 with the block's own type, before 7: loss and duplicate are different asked types
   pub ten-first :
-      (check_of Standard (Spans (Chunks Duplicate)) short-loss ≡ Unfit (OtherType 1))
-      × (check_of Crate (Spans (Chunks Duplicate)) short-loss ≡ Unfit (OtherType 1))
-      × (check_of Standard Clock short-loss ≡ Unfit (OtherType 1))
-      × (check_of Crate Echoes a-clock ≡ Unfit (OtherType 4))
-      × (check_of Standard (Spans (Chunks Loss)) (rows (0x02000002 ∷ 7 ∷ 0 ∷ [])) ≡ Unfit (OtherType 2))
-      × (check_of Standard (Spans Times) (rows (0xff000002 ∷ 7 ∷ 0 ∷ [])) ≡ Unfit (OtherType 255))
+      (check_of Standard (Spans (Chunks Duplicate)) short-loss ≡ Err (OtherType 1))
+      × (check_of Crate (Spans (Chunks Duplicate)) short-loss ≡ Err (OtherType 1))
+      × (check_of Standard Clock short-loss ≡ Err (OtherType 1))
+      × (check_of Crate Echoes a-clock ≡ Err (OtherType 4))
+      × (check_of Standard (Spans (Chunks Loss)) (rows (0x02000002 ∷ 7 ∷ 0 ∷ [])) ≡ Err (OtherType 2))
+      × (check_of Standard (Spans Times) (rows (0xff000002 ∷ 7 ∷ 0 ∷ [])) ≡ Err (OtherType 255))
   -- then 7
   pub then-seven :
-      (check_of Standard (Spans (Chunks Loss)) short-loss ≡ Unfit (BadBlockLength 12 8))
-      × (check_of Crate (Spans (Chunks Loss)) short-loss ≡ Unfit (BadBlockLength 12 8))
+      (check_of Standard (Spans (Chunks Loss)) short-loss ≡ Err (BadBlockLength 12 8))
+      × (check_of Crate (Spans (Chunks Loss)) short-loss ≡ Err (BadBlockLength 12 8))
   pub fit :
-      (check_of Standard (Spans (Chunks Loss)) a-loss ≡ Fine) × (check_of Crate (Spans (Chunks Loss)) a-loss ≡ Fine)
-      × (check_of Standard Clock a-clock ≡ Fine) × (check_of Crate Clock a-clock ≡ Fine)
+      (check_of Standard (Spans (Chunks Loss)) a-loss ≡ Ok tt) × (check_of Crate (Spans (Chunks Loss)) a-loss ≡ Ok tt)
+      × (check_of Standard Clock a-clock ≡ Ok tt) × (check_of Crate Clock a-clock ≡ Ok tt)
   -- 8 is the crate's, of type 3 alone, with left under 12
   pub cut :
       (is_cut Crate Times 8 ≡ true) × (is_cut Crate Times 11 ≡ true) × (is_cut Crate Times 12 ≡ false)
@@ -238,29 +232,29 @@ pub record Checks : Type 0 where
 
 pub record Fields : Type 0 where
   pub of-loss :
-      (fields_of Standard (Chunks Loss) a-loss ≡ Shown (fields 0x0a0b0c0d 0x1112 0x1314 2))
-      × (fields_of Crate (Chunks Loss) a-loss ≡ Shown (fields 0x0a0b0c0d 0x1112 0x1314 2))
+      (fields_of Standard (Chunks Loss) a-loss ≡ Ok (fields 0x0a0b0c0d 0x1112 0x1314 2))
+      × (fields_of Crate (Chunks Loss) a-loss ≡ Ok (fields 0x0a0b0c0d 0x1112 0x1314 2))
   -- 10, then 7
   pub order :
-      (fields_of Standard (Chunks Duplicate) short-loss ≡ NoneOf (OtherType 1))
-      × (fields_of Standard (Chunks Loss) short-loss ≡ NoneOf (BadBlockLength 12 8))
-      × (fields_of Standard Times (rows (0x03000001 ∷ 7 ∷ [])) ≡ NoneOf (BadBlockLength 12 8))
+      (fields_of Standard (Chunks Duplicate) short-loss ≡ Err (OtherType 1))
+      × (fields_of Standard (Chunks Loss) short-loss ≡ Err (BadBlockLength 12 8))
+      × (fields_of Standard Times (rows (0x03000001 ∷ 7 ∷ [])) ≡ Err (BadBlockLength 12 8))
   -- crate, type 3: 8 with left 4 and 8, whatever L is, and 12 bytes are enough
   pub eight-refused :
-      (fields_of Crate Times (rows (0x03000000 ∷ [])) ≡ NoneOf (NoFields 4))
-      × (fields_of Crate Times (rows (0x03000001 ∷ 7 ∷ [])) ≡ NoneOf (NoFields 8))
-      × (fields_of Crate Times (rows (0x03000000 ∷ 7 ∷ [])) ≡ NoneOf (NoFields 8))
-      × (fields_of Crate Times (rows (0x03050002 ∷ 7 ∷ 0x00020003 ∷ [])) ≡ Shown (fields 7 2 3 5))
+      (fields_of Crate Times (rows (0x03000000 ∷ [])) ≡ Err (NoFields 4))
+      × (fields_of Crate Times (rows (0x03000001 ∷ 7 ∷ [])) ≡ Err (NoFields 8))
+      × (fields_of Crate Times (rows (0x03000000 ∷ 7 ∷ [])) ≡ Err (NoFields 8))
+      × (fields_of Crate Times (rows (0x03050002 ∷ 7 ∷ 0x00020003 ∷ [])) ≡ Ok (fields 7 2 3 5))
   -- 10 before 8
-  pub ten-before-eight : fields_of Crate Times (rows (0x04000000 ∷ [])) ≡ NoneOf (OtherType 4)
+  pub ten-before-eight : fields_of Crate Times (rows (0x04000000 ∷ [])) ≡ Err (OtherType 4)
   -- L < 12 ≤ left is accepted: the fields come from what follows
-  pub from-what-follows : fields_of Crate Times (rows (0x03000000 ∷ 7 ∷ 0x00020003 ∷ [])) ≡ Shown (fields 7 2 3 0)
+  pub from-what-follows : fields_of Crate Times (rows (0x03000000 ∷ 7 ∷ 0x00020003 ∷ [])) ≡ Ok (fields 7 2 3 0)
   -- the time: 10, then 7, in each reading's own rule
   pub time :
-      (time_of Standard a-clock ≡ Time (record { 0 = 0x0102030405060708 }))
-      × (time_of Crate a-clock ≡ Time (record { 0 = 0x0102030405060708 }))
-      × (time_of Crate (rows (0x04000000 ∷ 1 ∷ 2 ∷ [])) ≡ Time (record { 0 = 0x100000002 }))
+      (time_of Standard a-clock ≡ Ok (record { 0 = 0x0102030405060708 }))
+      × (time_of Crate a-clock ≡ Ok (record { 0 = 0x0102030405060708 }))
+      × (time_of Crate (rows (0x04000000 ∷ 1 ∷ 2 ∷ [])) ≡ Ok (record { 0 = 0x100000002 }))
   pub time-order :
-      (time_of Standard short-loss ≡ NoTime (OtherType 1))
-      × (time_of Standard (rows (0x04000001 ∷ 1 ∷ [])) ≡ NoTime (BadBlockLength 12 8))
-      × (time_of Crate (rows (0x04000001 ∷ 1 ∷ [])) ≡ NoTime (BadBlockLength 12 8))
+      (time_of Standard short-loss ≡ Err (OtherType 1))
+      × (time_of Standard (rows (0x04000001 ∷ 1 ∷ [])) ≡ Err (BadBlockLength 12 8))
+      × (time_of Crate (rows (0x04000001 ∷ 1 ∷ [])) ≡ Err (BadBlockLength 12 8))

@@ -4,22 +4,18 @@
 --     a_block         a type 6 block with these flags, every other byte different
 --     the-sums        its numbers
 --     with-numbers    what it shows, by what of its numbers is there
+use Rattle.std.specs.Prelude.{Option, Ok, Err, Some, None}
 use Rattle.std.specs.Prelude.{ℕ, ◌+◌, ◌*◌, ◌≡◌, true, false, List, [], ◌∷◌, map, take, replicate}
+use Rattle.def_wire.specs.declared.Spread.{Spread}
 use Rattle.def_refusals.specs.declared.Refusal.TheVariants.{OtherType, BadBlockLength}
-use Rattle.def_refusals.specs.declared.Checked.TheVariants.{Fine, Unfit}
 use Rattle.def_wire.specs.declared.Reading.TheVariants.{Standard, Crate}
 use Rattle.def_wire.specs.declared.Rle.TheVariants.{Loss}
 use Rattle.def_wire.specs.declared.Ranged.TheVariants.{Chunks, Times}
 use Rattle.def_wire.specs.declared.Kind.TheVariants.{Spans, Clock, Echoes, Statistics}
 use Rattle.def_wire.specs.declared.Sums.{Sums}
-use Rattle.def_wire.specs.declared.CountOr.{CountOr}
-use Rattle.def_wire.specs.declared.CountOr.TheVariants.{Counted, Uncounted}
-use Rattle.def_wire.specs.declared.JitterOr.{JitterOr}
-use Rattle.def_wire.specs.declared.JitterOr.TheVariants.{Jitter, NoJitter}
 use Rattle.def_wire.specs.declared.HopsOr.{HopsOr}
 use Rattle.def_wire.specs.declared.HopsOr.TheVariants.{NoHops, Ttl, HopLimit, Unknown}
 use Rattle.def_wire.specs.declared.Summary.{Summary}
-use Rattle.def_wire.specs.declared.SummaryOr.TheVariants.{Stated, NoSummary}
 use Rattle.def_wire.specs.Block.{fitness, check_of}
 use Rattle.def_wire.specs.Summary.{spread, byte_spread, sums_at, is_set, toh_in, count_if, jitter_if, hops_by, summary_from}
 use Rattle.def_wire.specs.Summary.{summary_at, summary_of, flags_of, sums_of}
@@ -52,7 +48,7 @@ sums-of lost duplicates j h = record {
 abbrev pub the-sums : Sums
 the-sums = sums-of 0x21222324 0x31323334 1 1
 
-abbrev pub with-numbers : CountOr → CountOr → JitterOr → HopsOr → Summary
+abbrev pub with-numbers : Option ℕ → Option ℕ → Option Spread → HopsOr → Summary
 with-numbers l d j h = record {
   ssrc = 0x0a0b0c0d;
   begin = 0x1112;
@@ -64,14 +60,14 @@ with-numbers l d j h = record {
 }
 
 -- each number where it is there
-abbrev pub lost : CountOr
-lost = Counted 0x21222324
+abbrev pub lost : Option ℕ
+lost = Some 0x21222324
 
-abbrev pub twice : CountOr
-twice = Counted 0x31323334
+abbrev pub twice : Option ℕ
+twice = Some 0x31323334
 
-abbrev pub jitter : JitterOr
-jitter = Jitter (spread 0x41424344 0x51525354 0x61626364 0x71727374)
+abbrev pub jitter : Option Spread
+jitter = Some (spread 0x41424344 0x51525354 0x61626364 0x71727374)
 
 abbrev pub ttl : HopsOr
 ttl = Ttl (byte_spread 0x81 0x82 0x83 0x84)
@@ -84,7 +80,7 @@ abbrev pub full : Summary
 full = with-numbers lost twice jitter ttl
 
 abbrev pub empty : Summary
-empty = with-numbers Uncounted Uncounted NoJitter NoHops
+empty = with-numbers None None None NoHops
 
 pub record Parts : Type 0 where
   -- four numbers in the block's order
@@ -115,8 +111,8 @@ pub record Parts : Type 0 where
       × (map toh_in (231 ∷ 239 ∷ 247 ∷ 255 ∷ 7 ∷ 32 ∷ []) ≡ 0 ∷ 1 ∷ 2 ∷ 3 ∷ 0 ∷ 0 ∷ [])
   -- a number of 0 is there where its flag is set
   pub there :
-      (count_if true 0 ≡ Counted 0) × (count_if false 9 ≡ Uncounted)
-      × (jitter_if true (spread 0 0 0 0) ≡ Jitter (spread 0 0 0 0)) × (jitter_if false (spread 1 2 3 4) ≡ NoJitter)
+      (count_if true 0 ≡ Some 0) × (count_if false 9 ≡ None)
+      × (jitter_if true (spread 0 0 0 0) ≡ Some (spread 0 0 0 0)) × (jitter_if false (spread 1 2 3 4) ≡ None)
   pub of-hops :
       map (λ t. hops_by t (byte_spread 1 2 3 4)) (0 ∷ 1 ∷ 2 ∷ 3 ∷ [])
       ≡ NoHops ∷ Ttl (byte_spread 1 2 3 4) ∷ HopLimit (byte_spread 1 2 3 4) ∷ Unknown ∷ []
@@ -126,14 +122,14 @@ pub record Flags : Type 0 where
   -- none; each alone; ToH 1, 2 and 3 alone
   pub alone :
       map (λ f. summary_from f the-sums) (0 ∷ 128 ∷ 64 ∷ 32 ∷ 8 ∷ 16 ∷ 24 ∷ [])
-      ≡ empty ∷ with-numbers lost Uncounted NoJitter NoHops ∷ with-numbers Uncounted twice NoJitter NoHops
-      ∷ with-numbers Uncounted Uncounted jitter NoHops ∷ with-numbers Uncounted Uncounted NoJitter ttl
-      ∷ with-numbers Uncounted Uncounted NoJitter hops ∷ with-numbers Uncounted Uncounted NoJitter Unknown ∷ []
+      ≡ empty ∷ with-numbers lost None None NoHops ∷ with-numbers None twice None NoHops
+      ∷ with-numbers None None jitter NoHops ∷ with-numbers None None None ttl
+      ∷ with-numbers None None None hops ∷ with-numbers None None None Unknown ∷ []
   -- all; all but one; all with ToH 2 and 3
   pub all_but_one :
       map (λ f. summary_from f the-sums) (232 ∷ 104 ∷ 168 ∷ 200 ∷ 224 ∷ 240 ∷ 248 ∷ [])
-      ≡ full ∷ with-numbers Uncounted twice jitter ttl ∷ with-numbers lost Uncounted jitter ttl
-      ∷ with-numbers lost twice NoJitter ttl ∷ with-numbers lost twice jitter NoHops
+      ≡ full ∷ with-numbers None twice jitter ttl ∷ with-numbers lost None jitter ttl
+      ∷ with-numbers lost twice None ttl ∷ with-numbers lost twice jitter NoHops
       ∷ with-numbers lost twice jitter hops ∷ with-numbers lost twice jitter Unknown ∷ []
   -- the three reserved bits, each alone and with the others
   pub reserved :
@@ -142,7 +138,7 @@ pub record Flags : Type 0 where
   -- numbers of 0 with their flags set are 0, and with their flags clear absent
   pub zeros :
       (summary_from 232 (sums-of 0 0 0 0)
-      ≡ with-numbers (Counted 0) (Counted 0) (Jitter (spread 0 0 0 0)) (Ttl (byte_spread 0 0 0 0)))
+      ≡ with-numbers (Some 0) (Some 0) (Some (spread 0 0 0 0)) (Ttl (byte_spread 0 0 0 0)))
       × (summary_from 0 (sums-of 0 0 0 0) ≡ empty)
 
 -- a type 6 block of 36 bytes and of 44
@@ -155,63 +151,63 @@ too_long = rows (0x06e8000a ∷ replicate 10 1)
 -- of a block's view
 pub record OfAView : Type 0 where
   pub shows :
-      (summary_at (a_block 232) ≡ full) × (summary_of Standard (a_block 232) ≡ Stated full)
-      × (summary_of Standard (a_block 0) ≡ Stated empty) × (summary_of Standard (a_block 7) ≡ Stated empty)
-      × (summary_of Standard (a_block 255) ≡ Stated (with-numbers lost twice jitter Unknown))
+      (summary_at (a_block 232) ≡ full) × (summary_of Standard (a_block 232) ≡ Ok full)
+      × (summary_of Standard (a_block 0) ≡ Ok empty) × (summary_of Standard (a_block 7) ≡ Ok empty)
+      × (summary_of Standard (a_block 255) ≡ Ok (with-numbers lost twice jitter Unknown))
   -- 10 with the block's own type, before 7
   pub ten :
-      (summary_of Standard (rows (0x05000000 ∷ [])) ≡ NoSummary (OtherType 5))
-      × (summary_of Standard (rows (0x07000009 ∷ nine_words)) ≡ NoSummary (OtherType 7))
-      × (summary_of Standard [] ≡ NoSummary (OtherType 0))
+      (summary_of Standard (rows (0x05000000 ∷ [])) ≡ Err (OtherType 5))
+      × (summary_of Standard (rows (0x07000009 ∷ nine_words)) ≡ Err (OtherType 7))
+      × (summary_of Standard [] ≡ Err (OtherType 0))
   -- 7 with 40 and L: of no words, four bytes less, four more
   pub seven :
-      (summary_of Standard (rows (0x06000000 ∷ [])) ≡ NoSummary (BadBlockLength 40 4))
-      × (summary_of Standard too_short ≡ NoSummary (BadBlockLength 40 36))
-      × (summary_of Standard too_long ≡ NoSummary (BadBlockLength 40 44))
+      (summary_of Standard (rows (0x06000000 ∷ [])) ≡ Err (BadBlockLength 40 4))
+      × (summary_of Standard too_short ≡ Err (BadBlockLength 40 36))
+      × (summary_of Standard too_long ≡ Err (BadBlockLength 40 44))
   -- L is the length of what is given, not the length field's
   pub by-what-is-given :
-      (summary_of Standard (rows (0x06e80003 ∷ nine_words)) ≡ Stated full)
-      × (summary_of Standard (take 39 (a_block 232)) ≡ NoSummary (BadBlockLength 40 39))
+      (summary_of Standard (rows (0x06e80003 ∷ nine_words)) ≡ Ok full)
+      × (summary_of Standard (take 39 (a_block 232)) ≡ Err (BadBlockLength 40 39))
   -- the crate: 10 with 6, whatever the length is, and 10 with another type as ever
   pub crate :
-      (summary_of Crate (a_block 232) ≡ NoSummary (OtherType 6)) × (summary_of Crate too_short ≡ NoSummary (OtherType 6))
-      × (summary_of Crate (rows (0x04000002 ∷ 1 ∷ 2 ∷ [])) ≡ NoSummary (OtherType 4))
+      (summary_of Crate (a_block 232) ≡ Err (OtherType 6)) × (summary_of Crate too_short ≡ Err (OtherType 6))
+      × (summary_of Crate (rows (0x04000002 ∷ 1 ∷ 2 ∷ [])) ≡ Err (OtherType 4))
   pub checked :
-      (check_of Standard Statistics (a_block 0) ≡ Fine) × (check_of Crate Statistics (a_block 0) ≡ Unfit (OtherType 6))
-      × (check_of Standard Statistics too_long ≡ Unfit (BadBlockLength 40 44))
-      × (check_of Standard Statistics (rows (0x04000002 ∷ 1 ∷ 2 ∷ [])) ≡ Unfit (OtherType 4))
-      × (fitness Standard Statistics too_short ≡ Unfit (BadBlockLength 40 36))
-      × (fitness Crate Statistics (a_block 0) ≡ Unfit (OtherType 6))
+      (check_of Standard Statistics (a_block 0) ≡ Ok tt) × (check_of Crate Statistics (a_block 0) ≡ Err (OtherType 6))
+      × (check_of Standard Statistics too_long ≡ Err (BadBlockLength 40 44))
+      × (check_of Standard Statistics (rows (0x04000002 ∷ 1 ∷ 2 ∷ [])) ≡ Err (OtherType 4))
+      × (fitness Standard Statistics too_short ≡ Err (BadBlockLength 40 36))
+      × (fitness Crate Statistics (a_block 0) ≡ Err (OtherType 6))
   -- no other question is one about a summary
   pub asked-otherwise :
-      (check_of Standard (Spans (Chunks Loss)) (a_block 0) ≡ Unfit (OtherType 6))
-      × (check_of Standard (Spans Times) (a_block 0) ≡ Unfit (OtherType 6))
-      × (check_of Standard Clock (a_block 0) ≡ Unfit (OtherType 6))
-      × (check_of Crate Echoes (a_block 0) ≡ Unfit (OtherType 6))
+      (check_of Standard (Spans (Chunks Loss)) (a_block 0) ≡ Err (OtherType 6))
+      × (check_of Standard (Spans Times) (a_block 0) ≡ Err (OtherType 6))
+      × (check_of Standard Clock (a_block 0) ≡ Err (OtherType 6))
+      × (check_of Crate Echoes (a_block 0) ≡ Err (OtherType 6))
   -- a run of ones of no length is nothing here
-  pub no_words : check_of Standard Statistics (rows (0x06000009 ∷ replicate 9 0x40004000)) ≡ Fine
+  pub no_words : check_of Standard Statistics (rows (0x06000009 ∷ replicate 9 0x40004000)) ≡ Ok tt
 
 -- the flags and the numbers of what is shown, 0 where one is absent
 pub record Again : Type 0 where
   pub flags :
       map flags_of
-      (empty ∷ with-numbers lost Uncounted NoJitter NoHops ∷ with-numbers Uncounted twice NoJitter NoHops
-      ∷ with-numbers Uncounted Uncounted jitter NoHops ∷ with-numbers Uncounted Uncounted NoJitter ttl
-      ∷ with-numbers Uncounted Uncounted NoJitter hops ∷ with-numbers Uncounted Uncounted NoJitter Unknown ∷ full
-      ∷ with-numbers lost twice jitter Unknown ∷ with-numbers (Counted 0) (Counted 0) NoJitter NoHops ∷ [])
+      (empty ∷ with-numbers lost None None NoHops ∷ with-numbers None twice None NoHops
+      ∷ with-numbers None None jitter NoHops ∷ with-numbers None None None ttl
+      ∷ with-numbers None None None hops ∷ with-numbers None None None Unknown ∷ full
+      ∷ with-numbers lost twice jitter Unknown ∷ with-numbers (Some 0) (Some 0) None NoHops ∷ [])
       ≡ 0 ∷ 128 ∷ 64 ∷ 32 ∷ 8 ∷ 16 ∷ 24 ∷ 232 ∷ 248 ∷ 192 ∷ []
   pub numbers :
       (sums_of full ≡ the-sums) × (sums_of (with-numbers lost twice jitter hops) ≡ the-sums)
       × (sums_of empty ≡ sums-of 0 0 0 0) × (sums_of (with-numbers lost twice jitter Unknown)
       ≡ sums-of 0x21222324 0x31323334 1 0)
-      × (sums_of (with-numbers Uncounted twice NoJitter ttl) ≡ sums-of 0 0x31323334 0 1)
-      × (sums_of (with-numbers lost Uncounted jitter NoHops) ≡ sums-of 0x21222324 0 1 0)
+      × (sums_of (with-numbers None twice None ttl) ≡ sums-of 0 0x31323334 0 1)
+      × (sums_of (with-numbers lost None jitter NoHops) ≡ sums-of 0x21222324 0 1 0)
   -- and from these the same is shown
   pub back :
       (summary_from (flags_of full) (sums_of full) ≡ full) × (summary_from (flags_of empty) (sums_of empty) ≡ empty)
-      × (summary_from (flags_of (with-numbers Uncounted twice NoJitter hops))
-      (sums_of (with-numbers Uncounted twice NoJitter hops))
-      ≡ with-numbers Uncounted twice NoJitter hops)
-      × (summary_from (flags_of (with-numbers lost Uncounted jitter Unknown))
-      (sums_of (with-numbers lost Uncounted jitter Unknown))
-      ≡ with-numbers lost Uncounted jitter Unknown)
+      × (summary_from (flags_of (with-numbers None twice None hops))
+      (sums_of (with-numbers None twice None hops))
+      ≡ with-numbers None twice None hops)
+      × (summary_from (flags_of (with-numbers lost None jitter Unknown))
+      (sums_of (with-numbers lost None jitter Unknown))
+      ≡ with-numbers lost None jitter Unknown)

@@ -2,17 +2,15 @@
 --     sample, short      packets: a loss block and one of type 6; four bytes
 --     summed             a summary without lost, and with a hop limit
 --     Laid, laid         the facts, and that they hold
+use Rattle.std.specs.Prelude.{Ok, Err, Some, None}
 use Prim.Native.Nat.{ℕ}
 use mathlib.Core.Path.{◌≡◌, refl}
 use mathlib.Core.List.{List, [], ◌∷◌}
 use Rattle.def_refusals.specs.declared.Refusal.TheVariants.{BadBlockLength}
 use Rattle.def_refusals.specs.Numbers.{numbered}
 use Rattle.def_wire.specs.declared.Reading.TheVariants.{Standard, Crate}
-use Rattle.def_wire.specs.declared.CountOr.TheVariants.{Counted, Uncounted}
-use Rattle.def_wire.specs.declared.JitterOr.TheVariants.{Jitter}
 use Rattle.def_wire.specs.declared.HopsOr.TheVariants.{HopLimit}
 use Rattle.def_wire.specs.declared.Summary.{Summary}
-use Rattle.def_wire.specs.declared.SummaryOr.TheVariants.{Stated, NoSummary}
 use Rattle.def_wire.specs.Packet.{header_of, walk_from, count_of}
 use Rattle.def_wire.specs.Summary.{spread, byte_spread, flags_of, sums_of}
 use Rattle.def_standard.specs.declared.Chunk.TheVariants.{Vector}
@@ -35,9 +33,9 @@ summed = record {
   ssrc = 1;
   begin = 2;
   end = 3;
-  lost = Uncounted;
-  duplicates = Counted 5;
-  jitter = Jitter (spread 6 7 8 9);
+  lost = None;
+  duplicates = Some 5;
+  jitter = Some (spread 6 7 8 9);
   hops = HopLimit (byte_spread 10 11 12 13);
 }
 
@@ -106,7 +104,7 @@ pub record Laid : Type 0 where
       (flat_block Standard sample 28 ≡ block_row 28 0 4 0 0) × (flat_block Crate sample 1000 ≡ block_row 1000 0 4 0 0)
   -- D, J and ToH 2 are set; an absent number is 0
   pub summary :
-      (flat_summary (Stated summed) ≡ summed_flat) × (flat_summary (NoSummary (BadBlockLength 40 44)) ≡ unsummed_flat)
+      (flat_summary (Ok summed) ≡ summed_flat) × (flat_summary (Err (BadBlockLength 40 44)) ≡ unsummed_flat)
 
 pub laid : Laid
 unfolding reading_of chunk_asked flat_chunk chunk_of flat_parsed count_of header_of walk_from numbered flat_block flat_summary

@@ -3,34 +3,23 @@
 --     reading_of      which reading a number asks for
 --     flat_of ..      an answer as a code and two values: code 0 and what was found, or RULES' number of the
 --                    refusal and its two values
-use Rattle.std.specs.Prelude.{ℕ, cond, List, length, eqb}
+use Rattle.std.specs.Prelude.{ℕ, cond, List, length, eqb, Ok, Err}
+use Rattle.def_wire.specs.declared.Summary.{Summary}
+use Rattle.def_refusals.specs.Answers.{Or}
+use Rattle.def_wire.specs.declared.LongTime.{LongTime}
 use Rattle.def_refusals.specs.declared.Refusal.{Refusal}
 use Rattle.def_refusals.specs.declared.Numbered.{Numbered}
-use Rattle.def_refusals.specs.declared.Answer.{Answer}
-use Rattle.def_refusals.specs.declared.Answer.TheVariants.{Done, Refused}
-use Rattle.def_refusals.specs.declared.Checked.{Checked}
-use Rattle.def_refusals.specs.declared.Checked.TheVariants.{Fine, Unfit}
 use Rattle.def_refusals.specs.Numbers.{numbered}
 use Rattle.def_wire.specs.declared.Reading.{Reading}
 use Rattle.def_wire.specs.declared.Reading.TheVariants.{Standard, Crate}
-use Rattle.def_wire.specs.declared.Located.{Located}
-use Rattle.def_wire.specs.declared.Located.TheVariants.{At, Missing}
 use Rattle.def_wire.specs.declared.Fields.{Fields}
-use Rattle.def_wire.specs.declared.FieldsOr.{FieldsOr}
-use Rattle.def_wire.specs.declared.FieldsOr.TheVariants.{Shown, NoneOf}
-use Rattle.def_wire.specs.declared.TimeOr.{TimeOr}
-use Rattle.def_wire.specs.declared.TimeOr.TheVariants.{Time, NoTime}
 use Rattle.def_wire.specs.declared.Sums.{Sums}
-use Rattle.def_wire.specs.declared.SummaryOr.{SummaryOr}
-use Rattle.def_wire.specs.declared.SummaryOr.TheVariants.{Stated, NoSummary}
 use Rattle.def_wire.specs.Packet.{ssrc_of, next_place, view_from}
 use Rattle.def_wire.specs.Block.{type_of, specific_of, block_length}
 use Rattle.def_wire.specs.Summary.{spread, byte_spread, flags_of, sums_of}
 use Rattle.def_standard.specs.declared.Chunk.{Chunk}
 use Rattle.def_standard.specs.declared.Chunk.TheVariants.{Null, Skip, Run, Vector}
 use Rattle.def_cursor.specs.declared.Stretch.{Stretch}
-use Rattle.def_cursor.specs.declared.Advanced.{Advanced}
-use Rattle.def_cursor.specs.declared.Advanced.TheVariants.{Moved, Stuck}
 use Rattle.def_cursor.specs.Cursor.{start}
 use Rattle.flat.specs.declared.Flat.{Flat}
 use Rattle.flat.specs.declared.FlatStretch.{FlatStretch}
@@ -56,19 +45,19 @@ abbrev pub flat_refusal : Refusal → Flat
 flat_refusal x = flat_row (numbered x)
 
 -- a count
-unfoldable pub flat_of : Answer → Flat
-flat_of (Done n) = found n 0
-flat_of (Refused x) = flat_refusal x
+unfoldable pub flat_of : Or ℕ → Flat
+flat_of (Ok n) = found n 0
+flat_of (Err x) = flat_refusal x
 
 -- where a view begins, and how many bytes it has
-unfoldable pub flat_located : Located → Flat
-flat_located (At at n) = found at n
-flat_located (Missing x) = flat_refusal x
+unfoldable pub flat_located : Or (ℕ × ℕ) → Flat
+flat_located (Ok (at, n)) = found at n
+flat_located (Err x) = flat_refusal x
 
 -- a 64-bit time
-unfoldable pub flat_time : TimeOr → Flat
-flat_time (Time t) = found t.0 0
-flat_time (NoTime x) = flat_refusal x
+unfoldable pub flat_time : Or LongTime → Flat
+flat_time (Ok t) = found t.0 0
+flat_time (Err x) = flat_refusal x
 
 abbrev pub fields_row : Flat → Fields → FlatFields
 fields_row f g = record {
@@ -85,9 +74,9 @@ abbrev pub no_fields : Fields
 no_fields = record { ssrc = 0; begin = 0; end = 0; thinning = 0 }
 
 -- a block's fields; all 0 where they are refused
-unfoldable pub flat_fields : FieldsOr → FlatFields
-flat_fields (Shown g) = fields_row (found 0 0) g
-flat_fields (NoneOf x) = fields_row (flat_refusal x) no_fields
+unfoldable pub flat_fields : Or Fields → FlatFields
+flat_fields (Ok g) = fields_row (found 0 0) g
+flat_fields (Err x) = fields_row (flat_refusal x) no_fields
 
 abbrev pub stretch_row : Flat → Stretch → FlatStretch
 stretch_row f t =
@@ -106,9 +95,9 @@ abbrev pub no_stretch : Stretch
 no_stretch = record { next = start; taken = 0; listed = 0 }
 
 -- a cursor's stretch; all 0 where it is refused
-unfoldable pub flat_stretch : Advanced → FlatStretch
-flat_stretch (Moved t) = stretch_row (found 0 0) t
-flat_stretch (Stuck x) = stretch_row (flat_refusal x) no_stretch
+unfoldable pub flat_stretch : Or Stretch → FlatStretch
+flat_stretch (Ok t) = stretch_row (found 0 0) t
+flat_stretch (Err x) = stretch_row (flat_refusal x) no_stretch
 
 -- a chunk word's kind by a number: 0 Null, 1 a run of zeros, 2 a run of ones, anything else a vector
 unfoldable pub chunk_asked : ℕ → ℕ → Chunk
@@ -122,9 +111,9 @@ flat_chunk (Run n) = found 2 n
 flat_chunk (Vector v) = found 3 v
 
 -- a packet's count of blocks with its sender's SSRC
-unfoldable pub flat_parsed : List ℕ → Answer → Flat
-flat_parsed s (Done n) = found n (ssrc_of s)
-flat_parsed s (Refused x) = flat_refusal x
+unfoldable pub flat_parsed : List ℕ → Or ℕ → Flat
+flat_parsed s (Ok n) = found n (ssrc_of s)
+flat_parsed s (Err x) = flat_refusal x
 
 -- what stands at a place of a packet: where the next block begins, how many bytes the block's view has, and what its
 -- header bytes say. Any place serves: past the end the view is empty, its bytes count as 0, and the place stays
@@ -138,9 +127,9 @@ flat_block r s at = record {
 }
 
 -- code 0, where nothing is refused
-unfoldable pub flat_checked : Checked → Flat
-flat_checked Fine = found 0 0
-flat_checked (Unfit x) = flat_refusal x
+unfoldable pub flat_checked : Or (Unit {0}) → Flat
+flat_checked (Ok _) = found 0 0
+flat_checked (Err x) = flat_refusal x
 
 -- a call on a packet that comes in portions
 abbrev pub followed_row : Flat → Followed → FlatFollowed
@@ -190,6 +179,6 @@ no_sums = record {
   hops = byte_spread 0 0 0 0;
 }
 
-unfoldable pub flat_summary : SummaryOr → FlatSummary
-flat_summary (Stated s) = summary_row (found 0 0) (flags_of s) (sums_of s)
-flat_summary (NoSummary x) = summary_row (flat_refusal x) 0 no_sums
+unfoldable pub flat_summary : Or Summary → FlatSummary
+flat_summary (Ok s) = summary_row (found 0 0) (flags_of s) (sums_of s)
+flat_summary (Err x) = summary_row (flat_refusal x) 0 no_sums

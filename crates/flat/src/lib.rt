@@ -6,10 +6,10 @@ ghost use Rattle.flat.specs.Flat.{reading_of, chunk_asked, flat_refusal, flat_of
 ghost use Rattle.flat.specs.Flat.{flat_time, flat_stretch, flat_chunk, flat_checked, flat_followed, flat_summary};
 ghost use Rattle.flat.specs.Flat.{summary_row, no_sums};
 
-use def_cursor::Advanced;
-use def_refusals::{Answer, Checked, Refusal};
+use def_cursor::Stretch;
+use def_refusals::Refusal;
 use def_standard::Chunk;
-use def_wire::{ByteSpread, FieldsOr, Located, LongTime, Reading, Spread, SummaryOr, Sums, TimeOr};
+use def_wire::{ByteSpread, Fields, LongTime, Reading, Spread, Summary, Sums};
 use states::{Followed, Portions};
 
 // Code 0 and what was found; or RULES' number of the refusal and its two values.
@@ -138,39 +138,39 @@ pub fn refusal(x: Refusal) -> Flat
 }
 
 // A count.
-pub fn answer(a: Answer) -> Flat
+pub fn answer(a: Result<usize, Refusal>) -> Flat
     ensures { result ≡ flat_of a }
 {
     match a {
-        Answer::Done(n) => Flat {
+        Ok(n) => Flat {
             code: 0,
             first: n as u64,
             second: 0,
         },
-        Answer::Refused(x) => refusal(x),
+        Err(x) => refusal(x),
     }
 }
 
 // Where a view lies.
-pub fn located(a: Located) -> Flat
+pub fn located(a: Result<(usize, usize), Refusal>) -> Flat
     ensures { result ≡ flat_located a }
 {
     match a {
-        Located::At(at, n) => Flat {
+        Ok((at, n)) => Flat {
             code: 0,
             first: at as u64,
             second: n as u64,
         },
-        Located::Missing(x) => refusal(x),
+        Err(x) => refusal(x),
     }
 }
 
 // A block's fields.
-pub fn fields(a: FieldsOr) -> FlatFields
+pub fn fields(a: Result<Fields, Refusal>) -> FlatFields
     ensures { result ≡ flat_fields a }
 {
     match a {
-        FieldsOr::Shown(g) => FlatFields {
+        Ok(g) => FlatFields {
             code: 0,
             first: 0,
             second: 0,
@@ -179,7 +179,7 @@ pub fn fields(a: FieldsOr) -> FlatFields
             end: g.end,
             thinning: g.thinning,
         },
-        FieldsOr::NoneOf(x) => {
+        Err(x) => {
             let f = refusal(x);
             FlatFields {
                 code: f.code,
@@ -195,25 +195,25 @@ pub fn fields(a: FieldsOr) -> FlatFields
 }
 
 // A 64-bit time.
-pub fn time(a: TimeOr) -> Flat
+pub fn time(a: Result<LongTime, Refusal>) -> Flat
     ensures { result ≡ flat_time a }
 {
     match a {
-        TimeOr::Time(t) => Flat {
+        Ok(t) => Flat {
             code: 0,
             first: t.0,
             second: 0,
         },
-        TimeOr::NoTime(x) => refusal(x),
+        Err(x) => refusal(x),
     }
 }
 
 // A cursor's stretch.
-pub fn stretch(a: Advanced) -> FlatStretch
+pub fn stretch(a: Result<Stretch, Refusal>) -> FlatStretch
     ensures { result ≡ flat_stretch a }
 {
     match a {
-        Advanced::Moved(t) => {
+        Ok(t) => {
             let next = t.next;
             FlatStretch {
                 code: 0,
@@ -226,7 +226,7 @@ pub fn stretch(a: Advanced) -> FlatStretch
                 listed: t.listed as u64,
             }
         }
-        Advanced::Stuck(x) => {
+        Err(x) => {
             let f = refusal(x);
             FlatStretch {
                 code: f.code,
@@ -271,16 +271,16 @@ pub fn kind_number(c: Chunk) -> Flat
 }
 
 // Whether something is refused: code 0 and no values where it is not.
-fn checked(c: Checked) -> Flat
+fn checked(c: Result<(), Refusal>) -> Flat
     ensures { result ≡ flat_checked c }
 {
     match c {
-        Checked::Fine => Flat {
+        Ok(()) => Flat {
             code: 0,
             first: 0,
             second: 0,
         },
-        Checked::Unfit(x) => refusal(x),
+        Err(x) => refusal(x),
     }
 }
 
@@ -353,11 +353,11 @@ fn no_sums() -> Sums
 }
 
 // A summary.
-pub fn summary(a: SummaryOr) -> FlatSummary
+pub fn summary(a: Result<Summary, Refusal>) -> FlatSummary
     ensures { result ≡ flat_summary a }
 {
     match a {
-        SummaryOr::Stated(s) => {
+        Ok(s) => {
             let f = Flat {
                 code: 0,
                 first: 0,
@@ -365,6 +365,6 @@ pub fn summary(a: SummaryOr) -> FlatSummary
             };
             summary_row(f, stats::flags_of(s), stats::sums_of(s))
         }
-        SummaryOr::NoSummary(x) => summary_row(refusal(x), 0, no_sums()),
+        Err(x) => summary_row(refusal(x), 0, no_sums()),
     }
 }

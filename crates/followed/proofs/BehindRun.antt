@@ -5,6 +5,7 @@
 --     ending-more     bytes of the block, and then others
 --     opened-item     the next item of a block; opened-none, where there is none
 --     ending-done     the block's bytes have all come; ending-open, more of them are to come
+use Rattle.std.specs.Prelude.{Ok}
 use Prim.Native.Nat.{ℕ, ◌+◌, ◌-◌, ◌≤◌, ◌<◌}
 use mathlib.Core.Path.{◌≡◌, sym, ◌∙◌}
 use mathlib.Core.Bool.{false}
@@ -15,7 +16,6 @@ use lib.Seq.{drop-append-add}
 use lib.Dec.{ltb, eqb}
 use borrow.Author.Tests.{lt-ltb, le-ltb, ltb-true, ltb-false}
 use Rattle.laws.proofs.Tests.{either}
-use Rattle.def_refusals.specs.declared.Checked.TheVariants.{Fine}
 use Rattle.def_portions.specs.declared.Event.TheVariants.{End}
 use Rattle.def_portions.specs.Events.{course, quiet}
 use Rattle.states.specs.declared.Known.{Known}
@@ -34,7 +34,7 @@ abbrev pub bare : Known → Known
 bare k = known k.announced 0 0 0 0
 
 module _ (k : Known) (behind : ℕ) (bs : List ℕ) where
-  pub next-over : behind ≡ 0 → opening (next_block k behind) bs ≡ course (End ∷ []) Fine
+  pub next-over : behind ≡ 0 → opening (next_block k behind) bs ≡ course (End ∷ []) (Ok tt)
   unfolding next_block
   next-over e = rw e (over-run (bare k) bs)
 

@@ -1,15 +1,15 @@
 -- One block, from its first byte on, as far as its bytes have come. Assumes bytes below 256.
 --     block_run     a refusal, or its events and then what is behind it
+use Rattle.std.specs.Prelude.{Ok, Err}
 use Prim.Native.Nat.{ℕ, ◌+◌, ◌-◌, ◌≤◌}
 use mathlib.Core.Path.{◌≡◌, refl, ap, ap₂, ◌∙◌}
 use mathlib.Core.List.{List, [], ◌∷◌, ◌++◌}
 use native.Mathlib.Omega.{arith}
 use lib.ListN.{length, take, drop}
 use lib.Seq.{take-append-add}
+use Rattle.def_refusals.specs.Answers.{Or}
 use Rattle.utils.proofs.BytesLaws.{Bytes}
 use Rattle.def_refusals.specs.declared.Refusal.{Refusal}
-use Rattle.def_refusals.specs.declared.Checked.{Checked}
-use Rattle.def_refusals.specs.declared.Checked.TheVariants.{Fine, Unfit}
 use Rattle.def_wire.specs.Bytes.{four}
 use Rattle.def_wire.specs.Block.{type_of, block_length, kind_of}
 use Rattle.def_portions.specs.Events.{Course, course, then, unless, block_fault, block_then}
@@ -45,11 +45,11 @@ module _ (k : Known) (behind a b c d : ℕ) (y : Bytes (header a b c d)) (x : Li
       let n = block_length v - 4 in
       then (list_of (start_in kd w)) (opening (opened_by kd (known k.announced w 0 0 0) n (behind - n)) x)
 
-  block_refused : (r : Refusal) → block_fault (behind + 4) hd ≡ Unfit r
-      → run_of (state block 4 0 0 behind k) (hd ++ x) ≡ course [] (Unfit r)
+  block_refused : (r : Refusal) → block_fault (behind + 4) hd ≡ Err r
+      → run_of (state block 4 0 0 behind k) (hd ++ x) ≡ course [] (Err r)
   block_refused r f = item_refused block 4 0 behind k hd x (omega arith) refl r (fault-held ∙ f)
 
-  block-passed : block_fault (behind + 4) hd ≡ Fine
+  block-passed : block_fault (behind + 4) hd ≡ Ok tt
       → run_of (state block 4 0 0 behind k) (hd ++ x)
       ≡ block_then (hd ++ take size x) (ending k.announced size (behind - size) x)
   unfolding passed shown_by lone_of in_block
@@ -67,14 +67,14 @@ module _ (k : Known) (behind a b c d : ℕ) (y : Bytes (header a b c d)) (x : Li
       let n : block_length v ≡ 4 + size = omega arith in
       ap (λ (m : ℕ). take m v) n ∙ take-append-add hd x size
 
-  block-whole : (f : Checked) → block_fault (behind + 4) v ≡ f
+  block-whole : (f : Or (Unit {0})) → block_fault (behind + 4) v ≡ f
       → run_of (state block 4 0 0 behind k) v
       ≡ unless f (block_then (take (block_length v) v) (ending k.announced size (behind - size) x))
   unfolding block_fault
-  block-whole Fine e = block-passed e ∙ (rw own)
-  block-whole (Unfit r) e = block_refused r e
+  block-whole (Ok _) e = block-passed e ∙ (rw own)
+  block-whole (Err r) e = block_refused r e
 
-pub block_run : (k : Known) (behind : ℕ) (v : List ℕ) → 4 ≤ length v → Bytes v → (f : Checked)
+pub block_run : (k : Known) (behind : ℕ) (v : List ℕ) → 4 ≤ length v → Bytes v → (f : Or (Unit {0}))
     → block_fault (behind + 4) v ≡ f → let n = block_length v - 4 in
     run_of (state block 4 0 0 behind k) v
     ≡ unless f (block_then (take (block_length v) v) (ending k.announced n (behind - n) (drop 4 v)))

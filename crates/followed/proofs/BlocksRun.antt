@@ -1,5 +1,6 @@
 -- The blocks of a packet, as far as its bytes have come. Assumes bytes below 256.
 --     blocks        the blocks from a place on
+use Rattle.std.specs.Prelude.{Ok, Err}
 use Prim.Native.Nat.{ℕ, zero, suc, ◌+◌, ◌*◌, ◌-◌, ◌%◌, ◌≤◌, ◌<◌}
 use mathlib.Core.Path.{◌≡◌, refl, sym, ap, ◌∙◌}
 use mathlib.Core.List.{List}
@@ -8,10 +9,9 @@ use lib.ListN.{length, take, drop, length-drop}
 use lib.Seq.{drop-drop}
 use lib.Dec.{ltb, eqb}
 use borrow.Author.Tests.{ltb-true, ltb-false, lt-ltb, le-ltb, le-leb, lt-leb, eqb-true, eqb-false}
+use Rattle.def_refusals.specs.Answers.{Or}
 use Rattle.laws.proofs.Tests.{either}
 use Rattle.utils.proofs.BytesLaws.{Bytes, be16-same, same_drop}
-use Rattle.def_refusals.specs.declared.Checked.{Checked}
-use Rattle.def_refusals.specs.declared.Checked.TheVariants.{Fine, Unfit}
 use Rattle.def_wire.specs.Packet.{length_at, part}
 use Rattle.def_wire.specs.Block.{block_length}
 use Rattle.def_portions.specs.Events.{quiet, unless, block_fault, block_then, blocks_from}
@@ -70,7 +70,7 @@ module _ (s : List ℕ) (y : Bytes s) (stop : ℕ) (within : length s ≤ stop) 
         (further (at + block_length v) (behind - block_length v) (bare k) (omega (arith, g.fits))
         (omega (arith, g.fits)) u (omega arith))))
 
-    block_at : (f : Checked) → block_fault behind v ≡ f
+    block_at : (f : Or (Unit {0})) → block_fault behind v ≡ f
         → run_of (state block 4 0 0 (behind - 4) k) v
         ≡ unless f (block_then (part s at (length_at s at)) (blocks_from s stop fuel (at + length_at s at)))
     block_at f c =
@@ -79,11 +79,11 @@ module _ (s : List ℕ) (y : Bytes s) (stop : ℕ) (within : length s ≤ stop) 
         rw (length-at s at)
         (block_run k (behind - 4) v x (bytes_drop at s y) f (rw z c) ∙ rest f c)
       where
-        rest : (f : Checked) → block_fault behind v ≡ f
+        rest : (f : Or (Unit {0})) → block_fault behind v ≡ f
             → unless f (block_then (take (block_length v) v) (ending k.announced n (behind - 4 - n) (drop 4 v)))
             ≡ unless f (block_then (take (block_length v) v) (blocks_from s stop fuel (at + block_length v)))
-        rest Fine c = ap (block_then (take (block_length v) v)) (tail (good-block behind v c))
-        rest (Unfit r) c = refl
+        rest (Ok _) c = ap (block_then (take (block_length v) v)) (tail (good-block behind v c))
+        rest (Err r) c = refl
 
   pub blocks : (fuel : ℕ) → From fuel
   unfolding blocks_from

@@ -1,5 +1,6 @@
 -- The whole fold: from the start it shows what def_portions says of all bytes so far. Assumes bytes below 256.
 --     runs     the course of the bytes s is what the fold over them shows
+use Rattle.std.specs.Prelude.{Ok, Err}
 use Prim.Native.Nat.{ℕ, ◌-◌, ◌≤◌, ◌<◌}
 use mathlib.Core.Path.{◌≡◌, refl, sym, ap, ◌∙◌}
 use mathlib.Core.Bool.{cond}
@@ -8,11 +9,10 @@ use native.Mathlib.Omega.{arith}
 use lib.ListN.{length, drop}
 use lib.Dec.{ltb}
 use borrow.Author.Tests.{ltb-true, ltb-false, le-ltb}
+use Rattle.def_refusals.specs.Answers.{Or}
 use Rattle.laws.proofs.Tests.{either}
 use Rattle.utils.proofs.BytesLaws.{Bytes}
 use Rattle.def_refusals.specs.declared.Refusal.{Refusal}
-use Rattle.def_refusals.specs.declared.Checked.{Checked}
-use Rattle.def_refusals.specs.declared.Checked.TheVariants.{Fine, Unfit}
 use Rattle.def_wire.specs.Bytes.{four}
 use Rattle.def_wire.specs.Packet.{announced_of, ssrc_of}
 use Rattle.def_portions.specs.declared.Event.TheVariants.{Header}
@@ -46,24 +46,24 @@ module _ (a b c d : ℕ) (x : List ℕ) (y : Bytes (a ∷ b ∷ c ∷ d ∷ x)) 
   unfolding head_fault
   fault-held = ap head_fault header-back
 
-  pub head-refused : (r : Refusal) → head_fault s ≡ Unfit r → run_of start s ≡ course [] (Unfit r)
+  pub head-refused : (r : Refusal) → head_fault s ≡ Err r → run_of start s ≡ course [] (Err r)
   unfolding start
   head-refused r f = item_refused head 4 0 0 (known 0 0 0 0 0) hd x (omega arith) refl r (fault-held ∙ f)
 
-  head_passed : head_fault s ≡ Fine → run_of start s ≡ run_of (behind_head s) x
+  head_passed : head_fault s ≡ Ok tt → run_of start s ≡ run_of (behind_head s) x
   unfolding start passed shown_by lone_of in_packet opening
   head_passed f =
       item-passed head 4 0 0 (known 0 0 0 0 0) hd x (omega arith) refl (fault-held ∙ f)
       ∙ ap (λ (v : List ℕ). run_of (behind_head v) x) header-back
 
   -- the state there
-  pub head-after : head_fault s ≡ Fine → after start s ≡ after (behind_head s) x
+  pub head-after : head_fault s ≡ Ok tt → after start s ≡ after (behind_head s) x
   unfolding start passed in_packet
   head-after f =
       item-behind head 4 0 0 (known 0 0 0 0 0) hd x (omega arith) refl (fault-held ∙ f)
       ∙ ap (λ (v : List ℕ). after (behind_head v) x) header-back
 
-  head-open : length x < 4 → head_fault s ≡ Fine → run_of start s ≡ quiet
+  head-open : length x < 4 → head_fault s ≡ Ok tt → run_of start s ≡ quiet
   head-open h f = head_passed f ∙ item-open sender 4 0 (announced_of s - 8) (known (announced_of s) 0 0 0 0) x h
 
 -- behind the first eight
@@ -83,7 +83,7 @@ module _ (a b c d i j k l : ℕ) (x : List ℕ) (y : Bytes (a ∷ b ∷ c ∷ d 
       item-passed sender 4 0 behind kn sn x (omega arith) refl refl
       ∙ (rw (held_low sender refl sn refl z))
 
-  blocks-passed : head_fault p ≡ Fine → past_fault p ≡ Fine
+  blocks-passed : head_fault p ≡ Ok tt → past_fault p ≡ Ok tt
       → run_of start p ≡ then (Header (announced_of p) (ssrc_of p) ∷ []) (blocks_from p (announced_of p) (length p) 8)
   blocks-passed f h =
       let n = announced_of p in
@@ -100,7 +100,7 @@ rest_of s =
     (then (Header (announced_of s) (ssrc_of s) ∷ []) (blocks_from s (announced_of s) (length s) 8))
 
 good-head : (a b c d : ℕ) (x : List ℕ) → let s = a ∷ b ∷ c ∷ d ∷ x in
-    Bytes s → past_fault s ≡ Fine → head_fault s ≡ Fine → run_of start s ≡ rest_of s
+    Bytes s → past_fault s ≡ Ok tt → head_fault s ≡ Ok tt → run_of start s ≡ rest_of s
 good-head a b c d [] y p f = head-open a b c d [] y (omega arith) f
 good-head a b c d (i ∷ []) y p f = head-open a b c d (i ∷ []) y (omega arith) f
 good-head a b c d (i ∷ j ∷ []) y p f = head-open a b c d (i ∷ j ∷ []) y (omega arith) f
@@ -110,16 +110,16 @@ good-head a b c d (i ∷ j ∷ k ∷ l ∷ x) y p f =
     rw (le-ltb n 8 (omega arith)) (blocks-passed a b c d i j k l x y f p)
 
 -- the header's refusal, or that
-after-head : (s : List ℕ) → 4 ≤ length s → Bytes s → past_fault s ≡ Fine → (f : Checked) → head_fault s ≡ f
+after-head : (s : List ℕ) → 4 ≤ length s → Bytes s → past_fault s ≡ Ok tt → (f : Or (Unit {0})) → head_fault s ≡ f
     → run_of start s ≡ unless f (rest_of s)
 after-head [] h y p f e = absurd (omega arith)
 after-head (a ∷ []) h y p f e = absurd (omega arith)
 after-head (a ∷ b ∷ []) h y p f e = absurd (omega arith)
 after-head (a ∷ b ∷ c ∷ []) h y p f e = absurd (omega arith)
-after-head (a ∷ b ∷ c ∷ d ∷ x) h y p Fine e = good-head a b c d x y p e
-after-head (a ∷ b ∷ c ∷ d ∷ x) h y p (Unfit r) e = head-refused a b c d x y r e
+after-head (a ∷ b ∷ c ∷ d ∷ x) h y p (Ok _) e = good-head a b c d x y p e
+after-head (a ∷ b ∷ c ∷ d ∷ x) h y p (Err r) e = head-refused a b c d x y r e
 
-pub runs : (s : List ℕ) → Bytes s → past_fault s ≡ Fine → course_of s ≡ course (shows start s) (fault_of (after start s))
+pub runs : (s : List ℕ) → Bytes s → past_fault s ≡ Ok tt → course_of s ≡ course (shows start s) (fault_of (after start s))
 unfolding run_of course_of start
 runs s y p =
     either (ltb (length s) 4)

@@ -3,13 +3,13 @@
 --     Counts        n bytes of the packet have come, and an item is at hand
 --     Going         the same of a state that was not refused: it asks for bytes, or the packet has ended
 --     passed-by     it is so behind a complete item that shows no refusal
+use Rattle.std.specs.Prelude.{Ok}
 use Prim.Native.Nat.{ℕ, ◌+◌, ◌-◌, ◌%◌, ◌<◌}
 use mathlib.Core.Path.{◌≡◌, refl}
 use native.Mathlib.Omega.{arith}
 use lib.Dec.{eqb}
 use borrow.Author.Tests.{eqb-true, eqb-false}
 use Rattle.laws.proofs.Tests.{either}
-use Rattle.def_refusals.specs.declared.Checked.TheVariants.{Fine}
 use Rattle.def_wire.specs.Bytes.{four}
 use Rattle.def_wire.specs.Block.{type_of, block_length, kind_of}
 use Rattle.states.specs.declared.Known.{Known}
@@ -61,7 +61,7 @@ module _ (announced n : ℕ) where
       (record { length = e; all = omega (arith, c.fits); fours = m; shape = in-block c.shape }))))
 
   -- behind a complete item
-  module _ (c : Portions) (g : Counts announced n c) (z : c.missing ≡ 0) (f : item_fault c ≡ Fine) where
+  module _ (c : Portions) (g : Counts announced n c) (z : c.missing ≡ 0) (f : item_fault c ≡ Ok tt) where
     pub passed-by : Item c.item c.rest → Going announced n (passed c)
     unfolding passed in_block
     passed-by (at-sender i r) = rw i (going_next c.known c.behind g.length (omega (arith, g.all)) g.fours)

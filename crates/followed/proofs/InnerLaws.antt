@@ -3,16 +3,15 @@
 --     Onward        a state is the block's next item, or the next block where so many bytes are none
 --     kind-onward   it is so behind a good block's first four bytes
 --     item-onward   and behind each complete item of it
+use Rattle.std.specs.Prelude.{Option, Ok, Some, None}
 use Prim.Native.Nat.{ℕ, ◌-◌, ◌%◌, ◌≤◌, ◌<◌}
 use mathlib.Core.Path.{◌≡◌, refl}
 use native.Mathlib.Omega.{arith}
 use lib.Dec.{leb, eqb}
 use borrow.Author.Tests.{eqb-true, eqb-false, leb-true}
+use Rattle.def_wire.specs.declared.Kind.{Kind}
 use Rattle.laws.proofs.Tests.{either}
-use Rattle.def_refusals.specs.declared.Checked.TheVariants.{Fine}
 use Rattle.def_wire.specs.declared.Kind.TheVariants.{Spans, Clock, Echoes, Statistics}
-use Rattle.def_wire.specs.declared.KindOr.{KindOr}
-use Rattle.def_wire.specs.declared.KindOr.TheVariants.{AKind, NoKind}
 use Rattle.def_wire.specs.Block.{standard_rule, receipt_type, next_fit}
 use Rattle.def_standard.specs.Chunks.{covers_of}
 use Rattle.def_portions.specs.Events.{rule_of}
@@ -44,26 +43,26 @@ pub data Onward (announced rest behind : ℕ) (st : Portions) : Type 0 where
       → st ≡ opened k rest behind item size → Onward announced rest behind st
 
 -- behind a block's first four bytes, by its kind
-pub kind-onward : {announced : ℕ} (kd : KindOr) (k : Known) (l behind : ℕ) → k.announced ≡ announced
-    → rule_of kd l ≡ Fine → l % 4 ≡ 0 → 4 ≤ l → Onward announced (l - 4) behind (opened_by kd k (l - 4) behind)
+pub kind-onward : {announced : ℕ} (kd : Option Kind) (k : Known) (l behind : ℕ) → k.announced ≡ announced
+    → rule_of kd l ≡ Ok tt → l % 4 ≡ 0 → 4 ≤ l → Onward announced (l - 4) behind (opened_by kd k (l - 4) behind)
 unfolding standard_rule
-kind-onward (AKind (Spans g)) k l behind e f d h =
+kind-onward (Some (Spans g)) k l behind e f d h =
     let r : 12 ≤ l = leb-true _ _ (rule-fine (leb 12 l) 12 l f) in
     onward k fields 8 e
     (λ s. record { some = omega arith; fits = omega arith; shape = at_fields refl (omega arith) }) refl
-kind-onward (AKind Clock) k l behind e f d h =
+kind-onward (Some Clock) k l behind e f d h =
     let r : l ≡ 12 = eqb-true _ _ (rule-fine (eqb l 12) 12 l f) in
     onward k clock 8 e
     (λ s. record { some = omega arith; fits = omega arith; shape = at-clock refl (omega arith) }) refl
-kind-onward (AKind Echoes) k l behind e f d h =
+kind-onward (Some Echoes) k l behind e f d h =
     let r : (l - 4) % 12 ≡ 0 = eqb-true _ _ (rule-fine (eqb ((l - 4) % 12) 0) (next_fit l) l f) in
     onward k whose 4 e
     (λ (s : 0 < l - 4). record { some = omega arith; fits = omega arith; shape = at-whose refl (omega arith) }) refl
-kind-onward (AKind Statistics) k l behind e f d h =
+kind-onward (Some Statistics) k l behind e f d h =
     let r : l ≡ 40 = eqb-true _ _ (rule-fine (eqb l 40) 40 l f) in
     onward k sums 8 e
     (λ s. record { some = omega arith; fits = omega arith; shape = at-sums refl (omega arith) }) refl
-kind-onward NoKind k l behind e f d h =
+kind-onward None k l behind e f d h =
     onward k skipped (l - 4) e
     (λ s. record { some = s; fits = omega arith; shape = at-skipped refl (omega arith) }) refl
 

@@ -5,6 +5,7 @@
 --     item_refused    or the refusal that it shows, and nothing behind it
 --     item-kept, item-behind     the state in the two cases
 --     over-run        behind the packet nothing is shown
+use Rattle.std.specs.Prelude.{Ok, Err}
 use Prim.Native.Nat.{ℕ, ◌-◌, ◌≤◌, ◌<◌}
 use mathlib.Core.Path.{◌≡◌, refl, sym, ap, ◌∙◌}
 use mathlib.Core.Bool.{false}
@@ -14,7 +15,6 @@ use lib.ListN.{length}
 use lib.Dec.{eqb}
 use borrow.Author.Tests.{ne_eqb}
 use Rattle.def_refusals.specs.declared.Refusal.{Refusal}
-use Rattle.def_refusals.specs.declared.Checked.TheVariants.{Fine, Unfit}
 use Rattle.def_portions.specs.declared.Event.{Event}
 use Rattle.def_portions.specs.declared.Event.TheVariants.{End}
 use Rattle.def_portions.specs.Events.{Course, course, quiet, then}
@@ -58,14 +58,14 @@ module _ (item n rest behind : ℕ) (k : Known) where
       ap (after fresh) (sym (append-nil bs)) ∙ item-after [] fresh bs (omega arith) (omega arith) ∙ (rw f)
 
   module _ (bs x : List ℕ) (h : 0 < n) (e : length bs ≡ n) where
-    pub item-behind : item_fault (whole bs) ≡ Fine
+    pub item-behind : item_fault (whole bs) ≡ Ok tt
         → after (state item n 0 rest behind k) (bs ++ x) ≡ after (passed (whole bs)) x
     unfolding settled
     item-behind f =
         let z : n - length bs ≡ 0 = omega arith in
         item-after x fresh bs h (omega arith) ∙ (rw (z, f))
 
-    pub item-passed : item_fault (whole bs) ≡ Fine
+    pub item-passed : item_fault (whole bs) ≡ Ok tt
         → run_of (state item n 0 rest behind k) (bs ++ x) ≡ then (shown_by (whole bs)) (opening (passed (whole bs)) x)
     unfolding settled settled_events opening
     item-passed f =
@@ -73,14 +73,14 @@ module _ (item n rest behind : ℕ) (k : Known) where
         item-run bs x h (omega arith)
         ∙ (rw (z, f) (sym (then-then (shown_by (whole bs)) (end_in (passed (whole bs))) (run_of (passed (whole bs)) x))))
 
-    pub item_refused : (y : Refusal) → item_fault (whole bs) ≡ Unfit y
-        → run_of (state item n 0 rest behind k) (bs ++ x) ≡ course [] (Unfit y)
+    pub item_refused : (y : Refusal) → item_fault (whole bs) ≡ Err y
+        → run_of (state item n 0 rest behind k) (bs ++ x) ≡ course [] (Err y)
     unfolding settled settled_events run_of fault_of
     item_refused y f =
         let z : n - length bs ≡ 0 = omega arith in
         item-run bs x h (omega arith)
         ∙ (rw (z, f) (rw (shows-closed (whole bs) refl x, after-closed (whole bs) refl x, f)))
 
-pub over-run : (k : Known) (bs : List ℕ) → opening (state over 0 0 0 0 k) bs ≡ course (End ∷ []) Fine
+pub over-run : (k : Known) (bs : List ℕ) → opening (state over 0 0 0 0 k) bs ≡ course (End ∷ []) (Ok tt)
 unfolding opening run_of fault_of
 over-run k bs = rw (shows-closed (state over 0 0 0 0 k) refl bs, after-closed (state over 0 0 0 0 k) refl bs)

@@ -1,5 +1,6 @@
 -- A block behind its first four bytes, by its kind, as far as its bytes have come. Assumes bytes below 256.
 --     inner     its events, and then what is behind it
+use Rattle.std.specs.Prelude.{Option, Ok, Some, None}
 use Prim.Native.Nat.{ℕ, ◌+◌, ◌*◌, ◌-◌, ◌/◌, ◌%◌, ◌≤◌, ◌<◌}
 use mathlib.Core.Path.{◌≡◌, refl, sym, ap, ◌∙◌}
 use mathlib.Core.Bool.{true, false}
@@ -10,13 +11,11 @@ use lib.ListN.{length, take, drop, length-take, take-append-drop}
 use lib.Seq.{length-take-le}
 use lib.Dec.{ltb, leb, eqb}
 use borrow.Author.Tests.{ltb-true, ltb-false, le-leb, lt-leb, leb-true, eqb-true, eqb-false}
+use Rattle.def_wire.specs.declared.Kind.{Kind}
 use Rattle.laws.proofs.Tests.{either}
 use Rattle.utils.proofs.BytesLaws.{Bytes}
-use Rattle.def_refusals.specs.declared.Checked.TheVariants.{Fine}
 use Rattle.def_wire.specs.declared.Ranged.TheVariants.{Chunks, Times}
 use Rattle.def_wire.specs.declared.Kind.TheVariants.{Spans, Clock, Echoes, Statistics}
-use Rattle.def_wire.specs.declared.KindOr.{KindOr}
-use Rattle.def_wire.specs.declared.KindOr.TheVariants.{AKind, NoKind}
 use Rattle.def_wire.specs.Bytes.{be32, four}
 use Rattle.def_wire.specs.Block.{type_of, block_length, time_at, kind_of, standard_rule, receipt_type, next_fit}
 use Rattle.def_wire.specs.Summary.{summary_at}
@@ -27,7 +26,6 @@ use Rattle.def_portions.specs.Events.{Course, then, from, start_of, kind_events,
 use Rattle.states.specs.declared.Known.{Known}
 use Rattle.states.specs.Steps.{state, clock, skipped, whose, sums, item_fault, passed, shown_by, lone_of, opened, opened_by}
 use Rattle.states.specs.Steps.{start_in, list_of}
-use Rattle.states.specs.declared.Lone.TheVariants.{One}
 use Rattle.followed.specs.Run.{run_of, opening, ending}
 use Rattle.followed.proofs.ItemRun.{whole, then-then, item-open, item-passed}
 use Rattle.followed.proofs.BehindRun.{ending-more, ending-open, opened-item, opened-none}
@@ -41,7 +39,7 @@ use Rattle.followed.proofs.CheckLaws.{rule-fine}
 
 -- a block's last item, and then what is behind the block
 last-passed : (k : Known) (item n behind : ℕ) (t x : List ℕ) → 0 < n → length t ≡ n
-    → item_fault (whole item n 0 behind k t) ≡ Fine
+    → item_fault (whole item n 0 behind k t) ≡ Ok tt
     → passed (whole item n 0 behind k t) ≡ opened k 0 behind skipped 0
     → run_of (state item n 0 0 behind k) (t ++ x)
     ≡ then (shown_by (whole item n 0 behind k t)) (ending k.announced n behind (t ++ x))
@@ -105,50 +103,50 @@ module _ (a b c d : ℕ) (y : Bytes (header a b c d)) (announced : ℕ) where
       ≡ then (from 12 v (Time (time_at v) ∷ [])) (ending announced n behind bs)
   clock-size n behind bs u e = rw e (clock-run behind bs u)
 
-  started : list_of (One (Start (type_of (four kn.block)) (block_length (four kn.block)))) ≡ start_of hd ∷ []
+  started : list_of (Some (Start (type_of (four kn.block)) (block_length (four kn.block)))) ≡ start_of hd ∷ []
   started = ap (λ (v : List ℕ). start_of v ∷ []) (four-held hd refl y)
 
   -- its start, and then a course
   with-start : (o c : Course) (es : List Event) → o ≡ then es c
-      → then (list_of (One (Start (type_of (four kn.block)) (block_length (four kn.block))))) o
+      → then (list_of (Some (Start (type_of (four kn.block)) (block_length (four kn.block))))) o
       ≡ then (start_of hd ∷ es) c
   with-start o c es r =
       ap (λ (l : List Event). then l o) started ∙ ap (then (start_of hd ∷ [])) r ∙ then-then (start_of hd ∷ []) es c
 
   -- behind its first four bytes: its events, and then what is behind it
-  pub inner : (kd : KindOr) → kind_of a ≡ kd → rule_of kd (block_length hd) ≡ Fine → (behind : ℕ) (bs : List ℕ) → Bytes bs
+  pub inner : (kd : Option Kind) → kind_of a ≡ kd → rule_of kd (block_length hd) ≡ Ok tt → (behind : ℕ) (bs : List ℕ) → Bytes bs
       → then (list_of (start_in kd (be32 hd 0))) (opening (opened_by kd kn size behind) bs)
       ≡ kind_then kd (hd ++ take size bs) (ending announced size behind bs)
   unfolding kind_events kind_then standard_rule
-  inner (AKind (Spans (Chunks g))) e f behind bs u =
+  inner (Some (Spans (Chunks g))) e f behind bs u =
       let q : eqb a receipt_type ≡ false = rw (kind-type a (Spans (Chunks g)) e) (rle-not-times g) in
       let l : 12 ≤ block_length hd = leb-true _ _ (rule-fine (leb 12 (block_length hd)) 12 (block_length hd) f) in
       let m = (c * 256 + d - 2) * 2 in
       let n : 8 + m * 2 ≡ size = omega arith in
       rw n at (spans a b c d y announced (Chunks g) q m behind bs u)
-  inner (AKind (Spans Times)) e f behind bs u =
+  inner (Some (Spans Times)) e f behind bs u =
       let q : eqb a receipt_type ≡ true = rw (kind-type a (Spans Times) e) refl in
       let l : 12 ≤ block_length hd = leb-true _ _ (rule-fine (leb 12 (block_length hd)) 12 (block_length hd) f) in
       let m = c * 256 + d - 2 in
       let n : 8 + m * 4 ≡ size = omega arith in
       rw n at (spans a b c d y announced Times q m behind bs u)
-  inner (AKind Clock) e f behind bs u =
+  inner (Some Clock) e f behind bs u =
       let l : block_length hd ≡ 12 = eqb-true _ _ (rule-fine (eqb (block_length hd) 12) 12 (block_length hd) f) in
       let v = hd ++ take size bs in
       with-start (opening (opened kn size behind clock 8) bs) (ending announced size behind bs)
       (from 12 v (Time (time_at v) ∷ [])) (clock-size size behind bs u (omega arith))
-  inner (AKind Echoes) e f behind bs u =
+  inner (Some Echoes) e f behind bs u =
       let r = rule-fine (eqb (size % 12) 0) (next_fit (block_length hd)) (block_length hd) f in
       let l : size % 12 ≡ 0 = eqb-true _ _ r in
       let n : size / 12 * 12 ≡ size = omega arith in
       with-start (opening (opened kn size behind whose 4) bs) (ending announced size behind bs)
       (map Entry (entries_of (hd ++ take size bs)))
       (rw n at (units entries (size / 12) 0 kn (record {}) behind bs u))
-  inner (AKind Statistics) e f behind bs u =
+  inner (Some Statistics) e f behind bs u =
       let l : block_length hd ≡ 40 = eqb-true _ _ (rule-fine (eqb (block_length hd) 40) 40 (block_length hd) f) in
       let v = hd ++ take size bs in
       with-start (opening (opened kn size behind sums 8) bs) (ending announced size behind bs)
       (from 40 v (Summed (summary_at v) ∷ [])) (summary-size a b c d y announced behind size bs u (omega arith))
-  inner NoKind e f behind bs u =
+  inner None e f behind bs u =
       with-start (opening (opened kn size behind skipped size) bs) (ending announced size behind bs) []
       (skipped-run kn size behind bs)

@@ -6,6 +6,7 @@
 --     numbers_then, listed_then                 what the bytes behind the fields list, and then a course
 --     short-then, ranged-then                 a block of types 1 to 3, before its fields have come and with them
 --     whole-then                              a block without such a run, and then a course
+use Rattle.std.specs.Prelude.{Option, Ok, Some, None}
 use Prim.Native.Nat.{ℕ, zero, suc, ◌+◌, ◌*◌, ◌%◌, ◌≤◌, ◌<◌}
 use mathlib.Core.Path.{◌≡◌, refl, sym, ap, ◌∙◌}
 use mathlib.Core.Bool.{false}
@@ -15,15 +16,13 @@ use lib.ListN.{length, get_or, take, drop, length-take, length-drop}
 use lib.Seq.{length-take-le, take_all, take-nil, take-add, drop_at, get_or-take}
 use lib.Dec.{eqb}
 use borrow.Author.Tests.{le-leb, lt-leb, eq-eqb, ne_eqb, eqb-true, eqb-false}
+use Rattle.def_wire.specs.declared.Kind.{Kind}
 use Rattle.laws.proofs.Tests.{either, true≢false}
 use Rattle.utils.proofs.BytesLaws.{pair_up-end, length-pair_up}
 use Rattle.utils.proofs.ClearLaws.{clear-fine, fine-clear, has-nil, has_here, has-behind}
-use Rattle.def_refusals.specs.declared.Checked.TheVariants.{Fine}
 use Rattle.def_wire.specs.declared.Ranged.{Ranged}
 use Rattle.def_wire.specs.declared.Ranged.TheVariants.{Chunks, Times}
 use Rattle.def_wire.specs.declared.Kind.TheVariants.{Spans, Clock, Echoes, Statistics}
-use Rattle.def_wire.specs.declared.KindOr.{KindOr}
-use Rattle.def_wire.specs.declared.KindOr.TheVariants.{AKind, NoKind}
 use Rattle.def_wire.specs.Bytes.{words16, words32, pair_up}
 use Rattle.def_wire.specs.Block.{block_length, fields_at, words_at, lost_run, has, clear_rule}
 use Rattle.def_standard.specs.declared.Range.{Range}
@@ -106,7 +105,7 @@ words-part n v h =
     ∙ words_take n (drop 12 v)
 
 module _ (v : List ℕ) (c : Course) where
-  pub short-then : (r : Ranged) → length v < 12 → kind_then (AKind (Spans r)) v c ≡ c
+  pub short-then : (r : Ranged) → length v < 12 → kind_then (Some (Spans r)) v c ≡ c
   unfolding kind_then kind_events
   short-then (Chunks a) h =
       let n = 12 + 2 * clear_words (words_at v) in
@@ -116,7 +115,7 @@ module _ (v : List ℕ) (c : Course) where
   short-then Times h = rw (lt-leb 12 (length v) h)
 
   pub ranged-then : (r : Ranged) (x : List ℕ) → drop 12 v ≡ x → 12 ≤ length v
-      → kind_then (AKind (Spans r)) v c
+      → kind_then (Some (Spans r)) v c
       ≡ then (ranged_of v ∷ []) (listed_then r (range_of (fields_at v)) (block_length v) x c)
   unfolding kind_then kind_events
   ranged-then (Chunks a) x e h =
@@ -131,16 +130,16 @@ module _ (v : List ℕ) (c : Course) where
       )
   ranged-then Times x e h = rw (le-leb 12 (length v) h, e)
 
-  pub whole-then : (kd : KindOr) → length v % 2 ≡ 0 → lost_fault kd v ≡ Fine → kind_then kd v c ≡ then (kind_events kd v) c
+  pub whole-then : (kd : Option Kind) → length v % 2 ≡ 0 → lost_fault kd v ≡ Ok tt → kind_then kd v c ≡ then (kind_events kd v) c
   unfolding kind_then
-  whole-then (AKind (Spans (Chunks a))) h f =
+  whole-then (Some (Spans (Chunks a))) h f =
       let ws = words_at v in
       let e : clear_words ws ≡ length ws = clear-all ws (fine-clear (block_length v) ws f) in
       let n = 12 + 2 * clear_words ws in
       let t : take n v ≡ v = take_all n v (omega (arith, length-pair_up 256 (drop 12 v), length-drop 12 v)) in
       rw (t, f)
-  whole-then (AKind (Spans Times)) h f = refl
-  whole-then (AKind Clock) h f = refl
-  whole-then (AKind Echoes) h f = refl
-  whole-then (AKind Statistics) h f = refl
-  whole-then NoKind h f = refl
+  whole-then (Some (Spans Times)) h f = refl
+  whole-then (Some Clock) h f = refl
+  whole-then (Some Echoes) h f = refl
+  whole-then (Some Statistics) h f = refl
+  whole-then None h f = refl

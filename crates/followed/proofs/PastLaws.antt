@@ -1,5 +1,6 @@
 -- 19 on a state that bytes led to is 19 of all the bytes. Assumes bytes below 256.
 --     past-reached     where no refusal stays
+use Rattle.std.specs.Prelude.{Ok, Err}
 use Prim.Native.Nat.{ℕ, ◌+◌, ◌-◌, ◌≤◌, ◌<◌}
 use mathlib.Core.Path.{◌≡◌, refl, sym, ap, ap₂, ◌∙◌}
 use mathlib.Core.Bool.{true, cond}
@@ -9,11 +10,10 @@ use lib.ListN.{length, take, length-append}
 use lib.Seq.{take-append-add}
 use lib.Dec.{ltb, leb, eqb}
 use borrow.Author.Tests.{eqb-true, ltb-true, ltb-false, lt-ltb, le-ltb, le-leb, lt-leb}
+use Rattle.def_refusals.specs.Answers.{Or}
 use Rattle.laws.proofs.Tests.{either, and_false_r}
 use Rattle.utils.proofs.BytesLaws.{Bytes}
 use Rattle.def_refusals.specs.declared.Refusal.TheVariants.{PastEnd}
-use Rattle.def_refusals.specs.declared.Checked.{Checked}
-use Rattle.def_refusals.specs.declared.Checked.TheVariants.{Fine, Unfit}
 use Rattle.def_wire.specs.Bytes.{four}
 use Rattle.def_wire.specs.Packet.{announced_of}
 use Rattle.def_portions.specs.Events.{Course, need, head_fault}
@@ -31,20 +31,20 @@ use Rattle.followed.proofs.GoingLaws.{asks, at-sender, Counts}
 use Rattle.followed.proofs.TakenLaws.{going, Past, going-past}
 
 -- 19, by the announced length and the bytes in all; where no length is known, none
-abbrev past_where : ℕ → ℕ → Checked
-past_where a n = cond (eqb a 0) Fine (past_by a n)
+abbrev past_where : ℕ → ℕ → Or (Unit {0})
+past_where a n = cond (eqb a 0) (Ok tt) (past_by a n)
 
 past_by_lem : (s : List ℕ) → 4 ≤ length s → past_fault s ≡ past_where (good_length s) (length s)
 unfolding past_fault
 past_by_lem s h = rw (le-ltb (length s) 4 h) (by (head_fault s) refl)
   where
-    by : (f : Checked) → head_fault s ≡ f
+    by : (f : Or (Unit {0})) → head_fault s ≡ f
         → where_good (head_fault s) (need (leb (length s) (announced_of s)) (PastEnd (announced_of s) (length s)))
         ≡ past_where (good_length s) (length s)
-    by Fine e = rw (e, not-zero (announced_of s) (omega arith))
-    by (Unfit r) e = rw e
+    by (Ok _) e = rw (e, not-zero (announced_of s) (omega arith))
+    by (Err r) e = rw e
 
-past-few : (s : List ℕ) → length s < 4 → past_fault s ≡ Fine
+past-few : (s : List ℕ) → length s < 4 → past_fault s ≡ Ok tt
 unfolding past_fault
 past-few s h = rw (lt-ltb _ _ h)
 
@@ -120,14 +120,14 @@ module _ (a b c d : ℕ) (z : List ℕ) (y : Bytes (a ∷ b ∷ c ∷ d ∷ z)) 
   s = a ∷ b ∷ c ∷ d ∷ z
 
   -- where no refusal stays, the header is good
-  head-good : fault_of (after start s) ≡ Fine → (f : Checked) → head_fault s ≡ f → head_fault s ≡ Fine
+  head-good : fault_of (after start s) ≡ Ok tt → (f : Or (Unit {0})) → head_fault s ≡ f → head_fault s ≡ Ok tt
   unfolding run_of
-  head-good e Fine h = h
-  head-good e (Unfit r) h =
-      let o : fault_of (after start s) ≡ Unfit r = ap (λ (c : Course). c.fault) (head-refused a b c d z y r h) in
+  head-good e (Ok _) h = h
+  head-good e (Err r) h =
+      let o : fault_of (after start s) ≡ Err r = ap (λ (c : Course). c.fault) (head-refused a b c d z y r h) in
       let q : ◌≡◌ {A = ℕ} 0 1 = cc in absurd (omega arith)
 
-  reached : fault_of (after start s) ≡ Fine → past_fault s ≡ Fine → head_fault s ≡ Fine
+  reached : fault_of (after start s) ≡ Ok tt → past_fault s ≡ Ok tt → head_fault s ≡ Ok tt
       → Past (announced_of s) (length s) (after start s)
   reached e p h =
       let n = announced_of s in
@@ -140,7 +140,7 @@ module _ (a b c d : ℕ) (z : List ℕ) (y : Bytes (a ∷ b ∷ c ∷ d ∷ z)) 
       rw i (going-past n (length s) (after (behind_head s) z)
       (rw l at (going n z 4 (behind_head s) (asks (omega arith) counts) (omega arith) (rw i at e))))
 
-  past-late : fault_of (after start s) ≡ Fine → past_fault s ≡ Fine → (x : List ℕ)
+  past-late : fault_of (after start s) ≡ Ok tt → past_fault s ≡ Ok tt → (x : List ℕ)
       → past_of (after start s) x ≡ past_fault (s ++ x)
   unfolding head_fault
   past-late e p x =
@@ -149,11 +149,11 @@ module _ (a b c d : ℕ) (z : List ℕ) (y : Bytes (a ∷ b ∷ c ∷ d ∷ z)) 
       let least : 8 ≤ announced_of s = head-least s h in
       let some : announced_by (after start s) x ≡ announced_of s = r.length x in
       past-of (after start s) x (λ z. absurd (omega (arith, some, z)))
-      ∙ ap₂ past_where (r.length x ∙ sym (ap (λ (f : Checked). where_fine f (announced_of s)) h))
+      ∙ ap₂ past_where (r.length x ∙ sym (ap (λ (f : Or (Unit {0})). where_fine f (announced_of s)) h))
       (ap (λ (n : ℕ). n + length x) r.taken ∙ sym (length-append s x))
       ∙ sym (past_by_lem (s ++ x) (omega arith))
 
-pub past-reached : (b x : List ℕ) → Bytes (b ++ x) → past_fault b ≡ Fine → fault_of (after start b) ≡ Fine
+pub past-reached : (b x : List ℕ) → Bytes (b ++ x) → past_fault b ≡ Ok tt → fault_of (after start b) ≡ Ok tt
     → past_of (after start b) x ≡ past_fault (b ++ x)
 past-reached [] x y p e = past-early [] x (omega arith) y
 past-reached (a ∷ []) x y p e = past-early (a ∷ []) x (omega arith) y

@@ -1,5 +1,6 @@
 -- A block of types 1 to 3, behind its first four bytes, as far as its bytes have come. Assumes bytes below 256.
 --     spans      its fields, then its words or times, then what is behind it
+use Rattle.std.specs.Prelude.{Some}
 use Prim.Native.Nat.{ℕ, ◌+◌, ◌*◌, ◌-◌, ◌%◌, ◌≤◌, ◌<◌}
 use mathlib.Core.Path.{◌≡◌, refl, sym, ap, ap₂, ◌∙◌}
 use mathlib.Core.Bool.{Bool, true, false, cond}
@@ -14,7 +15,6 @@ use Rattle.utils.proofs.BytesLaws.{Bytes}
 use Rattle.def_wire.specs.declared.Ranged.{Ranged}
 use Rattle.def_wire.specs.declared.Ranged.TheVariants.{Chunks, Times}
 use Rattle.def_wire.specs.declared.Kind.TheVariants.{Spans}
-use Rattle.def_wire.specs.declared.KindOr.TheVariants.{AKind}
 use Rattle.def_wire.specs.declared.Fields.{Fields}
 use Rattle.def_wire.specs.Bytes.{be32, four, eight}
 use Rattle.def_wire.specs.Block.{type_of, specific_of, block_length, fields_at, receipt_type}
@@ -137,7 +137,7 @@ module _ (a b c d : ℕ) (y : Bytes (header a b c d)) (announced : ℕ) where
 
     spans-begun : (bs : List ℕ) → length bs < 8 → let v = hd ++ take size bs in
         opening (opened kn size behind fields 8) bs
-        ≡ kind_then (AKind (Spans r)) v (ending announced size behind bs)
+        ≡ kind_then (Some (Spans r)) v (ending announced size behind bs)
     spans-begun bs h =
         let v = hd ++ take size bs in
         let l : length v < 12 = omega (arith, length-take size bs) in
@@ -147,7 +147,7 @@ module _ (a b c d : ℕ) (y : Bytes (header a b c d)) (announced : ℕ) where
 
     spans-whole : (t x : List ℕ) → length t ≡ 8 → Bytes t → Bytes x → let v = hd ++ (t ++ take (m * unit_of r) x) in
         opening (opened kn size behind fields 8) (t ++ x)
-        ≡ kind_then (AKind (Spans r)) v (ending announced size behind (t ++ x))
+        ≡ kind_then (Some (Spans r)) v (ending announced size behind (t ++ x))
     unfolding ranged
     spans-whole t x e z u =
         let x' = take (m * unit_of r) x in
@@ -160,12 +160,12 @@ module _ (a b c d : ℕ) (y : Bytes (header a b c d)) (announced : ℕ) where
         ∙ item-passed fields 8 (size - 8) behind kn t x (omega arith) e refl
         ∙ (rw (fields-shown r q t x' e z (size - 8) behind, fields-passed r q t x' e z (size - 8) behind, n)
         (ap (then (ranged_of v ∷ [])) (listing r g (block_length v) k (fields-stand r q t x' e z) m behind x u)))
-        ∙ sym (ap (kind_then (AKind (Spans r)) v) (ending-more announced 8 (m * unit_of r) behind t x e)
+        ∙ sym (ap (kind_then (Some (Spans r)) v) (ending-more announced 8 (m * unit_of r) behind t x e)
         ∙ ranged-then v (ending announced (m * unit_of r) behind x) r x' (drop_at t x' 8 e) l)
 
     pub spans : (bs : List ℕ) → Bytes bs → let v = hd ++ take size bs in
         opening (opened kn size behind fields 8) bs
-        ≡ kind_then (AKind (Spans r)) v (ending announced size behind bs)
+        ≡ kind_then (Some (Spans r)) v (ending announced size behind bs)
     spans bs u =
         either (ltb (length bs) 8)
         (λ y. spans-begun bs (ltb-true _ _ y))

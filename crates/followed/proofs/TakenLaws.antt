@@ -1,6 +1,7 @@
 -- How many bytes a state has taken, and what it knows of the announced length. Assumes nothing of the bytes.
 --     going          after any bytes, up to the announced length, that show no refusal, the state asks for the others
 --     going-past     such a state has taken as many bytes as have come, and knows the length
+use Rattle.std.specs.Prelude.{Ok, Err}
 use Prim.Native.Nat.{ℕ, suc, ◌+◌, ◌-◌, ◌≤◌, ◌<◌}
 use mathlib.Core.Path.{◌≡◌, refl, sym, ◌∙◌}
 use mathlib.Core.Bool.{false}
@@ -10,10 +11,9 @@ use native.Mathlib.Omega.{arith}
 use lib.ListN.{length}
 use lib.Dec.{eqb}
 use borrow.Author.Tests.{eqb-true, eqb-false, eq-eqb}
+use Rattle.def_refusals.specs.Answers.{Or}
 use Rattle.laws.proofs.Tests.{either}
 use Rattle.def_refusals.specs.declared.Refusal.{Refusal}
-use Rattle.def_refusals.specs.declared.Checked.{Checked}
-use Rattle.def_refusals.specs.declared.Checked.TheVariants.{Fine, Unfit}
 use Rattle.states.specs.declared.Portions.{Portions}
 use Rattle.states.specs.Steps.{head, hold}
 use Rattle.states.specs.Steps.{item_fault, fault_of, passed_on}
@@ -32,17 +32,17 @@ held : {announced n : ℕ} (st : Portions) (b : ℕ) → 0 < st.missing → Coun
 held st b h g = record { length = g.length; all = omega (arith, g.all); fours = g.fours; shape = g.shape }
 
 -- a complete item that shows a refusal takes no more, and keeps it
-kept : (c : Portions) (r : Refusal) → c.missing ≡ 0 → item_fault c ≡ Unfit r → (bs : List ℕ)
-    → fault_of (after c bs) ≡ Unfit r
+kept : (c : Portions) (r : Refusal) → c.missing ≡ 0 → item_fault c ≡ Err r → (bs : List ℕ)
+    → fault_of (after c bs) ≡ Err r
 unfolding fault_of
 kept c r z f bs = rw (after-closed c z bs, z) f
 
 -- behind it, where the bytes that follow show no refusal
-settles : {announced n : ℕ} (c : Portions) → Counts announced n c → c.missing ≡ 0 → (x : Checked) → item_fault c ≡ x
-    → (bs : List ℕ) → fault_of (after (passed_on x c) bs) ≡ Fine → Going announced n (passed_on x c)
-settles {announced} {n} c g z Fine e bs f = passed-by announced n c g z e g.shape
-settles c g z (Unfit r) e bs f =
-    let o : Unfit r ≡ Fine = sym (kept c r z e bs) ∙ f in
+settles : {announced n : ℕ} (c : Portions) → Counts announced n c → c.missing ≡ 0 → (x : Or (Unit {0})) → item_fault c ≡ x
+    → (bs : List ℕ) → fault_of (after (passed_on x c) bs) ≡ Ok tt → Going announced n (passed_on x c)
+settles {announced} {n} c g z (Ok _) e bs f = passed-by announced n c g z e g.shape
+settles c g z (Err r) e bs f =
+    let o : ◌≡◌ {A = Or (Unit {0})} (Err r) (Ok tt) = sym (kept c r z e bs) ∙ f in
     let q : ◌≡◌ {A = ℕ} 0 1 = cc in absurd (omega arith)
 
 -- the state after a byte
@@ -61,19 +61,19 @@ next-complete st b h m =
     rw (not-zero st.missing h, eq-eqb (st.missing - 1) 0 m)
 
 -- a complete item shows no refusal, where the bytes behind it show none
-fine-by : (c : Portions) → c.missing ≡ 0 → (x : Checked) → item_fault c ≡ x → (bs : List ℕ)
-    → fault_of (after (passed_on x c) bs) ≡ Fine → x ≡ Fine
-fine-by c z Fine e bs f = refl
-fine-by c z (Unfit r) e bs f = sym (kept c r z e bs) ∙ f
+fine-by : (c : Portions) → c.missing ≡ 0 → (x : Or (Unit {0})) → item_fault c ≡ x → (bs : List ℕ)
+    → fault_of (after (passed_on x c) bs) ≡ Ok tt → x ≡ Ok tt
+fine-by c z (Ok _) e bs f = refl
+fine-by c z (Err r) e bs f = sym (kept c r z e bs) ∙ f
 
-pub fine-behind : (c : Portions) → c.missing ≡ 0 → (bs : List ℕ) → fault_of (after (passed_on (item_fault c) c) bs) ≡ Fine
-    → item_fault c ≡ Fine
+pub fine-behind : (c : Portions) → c.missing ≡ 0 → (bs : List ℕ) → fault_of (after (passed_on (item_fault c) c) bs) ≡ Ok tt
+    → item_fault c ≡ Ok tt
 fine-behind c z bs f = fine-by c z (item_fault c) refl bs f
 
 -- so after any bytes that show no refusal
 module _ (announced : ℕ) where
   pub going : (bs : List ℕ) (n : ℕ) (st : Portions) → Going announced n st → n + length bs ≤ announced
-      → fault_of (after st bs) ≡ Fine → Going announced (n + length bs) (after st bs)
+      → fault_of (after st bs) ≡ Ok tt → Going announced (n + length bs) (after st bs)
   unfolding after
   going [] n st g l f = rw (add-zero n) g
   going (b ∷ bs) n st (ended i k w z) l f = absurd (omega arith)
@@ -85,12 +85,12 @@ module _ (announced : ℕ) where
       (either (eqb (st.missing - 1) 0)
       (λ t. let z : st.missing - 1 ≡ 0 = eqb-true _ _ t in
       let q = next-complete st b h z in
-      let k : fault_of (after (passed_on (item_fault c) c) bs) ≡ Fine = rw q at f in
+      let k : fault_of (after (passed_on (item_fault c) c) bs) ≡ (Ok tt) = rw q at f in
       rw q (going bs (suc n) (passed_on (item_fault c) c) (settles c p z (item_fault c) refl bs k) (omega arith) k))
       (λ t. let z : st.missing - 1 ≡ 0 → ⊥ = eqb-false _ _ t in
       let m : 0 < st.missing - 1 = omega arith in
       let q = next-open st b h m in
-      let k : fault_of (after c bs) ≡ Fine = rw q at f in
+      let k : fault_of (after c bs) ≡ (Ok tt) = rw q at f in
       rw q (going bs (suc n) c (asks m p) (omega arith) k)))
 
 -- it is past the first four bytes

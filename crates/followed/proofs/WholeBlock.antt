@@ -3,6 +3,7 @@
 --     block-after     the state behind it does not depend on what was inside
 --     block-shows     it shows its events
 --     fault-four      its first four bytes show its refusal; length-four, and its length
+use Rattle.std.specs.Prelude.{Ok}
 use Prim.Native.Nat.{ℕ, suc, ◌+◌, ◌-◌, ◌≤◌, ◌<◌}
 use mathlib.Core.Path.{◌≡◌, refl, sym, ap, ap₂, ◌∙◌}
 use mathlib.Core.List.{List, [], ◌∷◌, ◌++◌, append_assoc, append-nil}
@@ -13,7 +14,6 @@ use lib.Dec.{eqb}
 use borrow.Author.Tests.{eqb-true, eqb-false}
 use Rattle.laws.proofs.Tests.{either}
 use Rattle.utils.proofs.BytesLaws.{Bytes}
-use Rattle.def_refusals.specs.declared.Checked.TheVariants.{Fine}
 use Rattle.def_wire.specs.Bytes.{be32, four}
 use Rattle.def_wire.specs.Block.{type_of, block_length, kind_of}
 use Rattle.def_portions.specs.declared.Event.{Event}
@@ -55,7 +55,7 @@ module _ {announced behind : ℕ} where
   -- one byte of it, where the bytes behind show no refusal
   within-next : (n b : ℕ) (st : Portions) → 0 < st.missing → st.rest + st.missing ≡ suc n → st.behind ≡ behind
       → st.known.announced ≡ announced → Inner st.item st.rest → (x : List ℕ)
-      → fault_of (after (next st b) x) ≡ Fine → Within announced behind n (next st b)
+      → fault_of (after (next st b) x) ≡ Ok tt → Within announced behind n (next st b)
   within-next n b st h m p e o x g =
       either (eqb (st.missing - 1) 0)
       (λ t. let z : st.missing - 1 ≡ 0 = eqb-true _ _ t in
@@ -68,7 +68,7 @@ module _ {announced behind : ℕ} where
       rw (next-open st b h l) (inside l (omega arith) p e o))
 
   -- all of them
-  within-after : (x y : List ℕ) (st : Portions) → Within announced behind (length x) st → fault_of (after st x) ≡ Fine
+  within-after : (x y : List ℕ) (st : Portions) → Within announced behind (length x) st → fault_of (after st x) ≡ Ok tt
       → after st (x ++ y) ≡ after (next_block (known announced 0 0 0 0) behind) y
   unfolding after
   within-after [] y st (inside h m p e o) g = absurd (omega arith)
@@ -78,7 +78,7 @@ module _ {announced behind : ℕ} where
   within-after (b ∷ x) y st (past z i) g = absurd (omega arith)
 
 -- a block that begins, and the end, show no refusal
-next-fine : (k : Known) (behind : ℕ) → fault_of (next_block k behind) ≡ Fine
+next-fine : (k : Known) (behind : ℕ) → fault_of (next_block k behind) ≡ Ok tt
 unfolding next_block fault_of
 next-fine k behind = either (eqb behind 0) (λ t. rw t) (λ f. rw f)
 
@@ -90,8 +90,8 @@ module _ (k : Known) (behind : ℕ) where
       let n = block_length v - 4 in opened_by (kind_of (type_of v)) (known k.announced w 0 0 0) n (behind - n)
 
   after-four : (a b c d : ℕ) (x y : List ℕ) → let v = a ∷ b ∷ c ∷ d ∷ x in
-      Bytes v → length v ≡ block_length v → block_fault (behind + 4) v ≡ Fine
-      → fault_of (after (state block 4 0 0 behind k) v) ≡ Fine
+      Bytes v → length v ≡ block_length v → block_fault (behind + 4) v ≡ Ok tt
+      → fault_of (after (state block 4 0 0 behind k) v) ≡ Ok tt
       → after (state block 4 0 0 behind k) (v ++ y) ≡ after (next_block (bare k) (behind - (length v - 4))) y
   unfolding passed in_block block_fault
   after-four a b c d x y u l f g =
@@ -111,8 +111,8 @@ module _ (k : Known) (behind : ℕ) where
       ∙ within-after x y (begun (be32 hd 0) hd) (within-onward (length x) _ _ (begun (be32 hd 0) hd) n m o)
       (sym (ap fault_of (behind_four x)) ∙ g)
 
-  module _ (v : List ℕ) (u : Bytes v) (l : length v ≡ block_length v) (f : block_fault (behind + 4) v ≡ Fine)
-      (clear : lost_fault (kind_of (type_of v)) v ≡ Fine) where
+  module _ (v : List ℕ) (u : Bytes v) (l : length v ≡ block_length v) (f : block_fault (behind + 4) v ≡ Ok tt)
+      (clear : lost_fault (kind_of (type_of v)) v ≡ Ok tt) where
     abbrev next_one : Portions
     next_one = next_block k (behind - (length v - 4))
 
@@ -125,21 +125,21 @@ module _ (k : Known) (behind : ℕ) where
         let m : behind - n ≡ behind - (length v - 4) = omega arith in
         let t : take (block_length v) v ≡ v = take_all (block_length v) v (omega arith) in
         let q : drop n (drop 4 v) ≡ [] = ap (λ (i : ℕ). drop i (drop 4 v)) e ∙ drop-length (drop 4 v) in
-        block_run k behind v (omega arith) u Fine f
+        block_run k behind v (omega arith) u (Ok tt) f
         ∙ ap₂ block_then t
         (ending-done k.announced n (behind - n) (drop 4 v) (omega arith)
         ∙ ap₂ (λ (i : ℕ) (s : List ℕ). opening (next_block k i) s) m q)
         ∙ whole-then v (opening next_one []) (kind_of (type_of v)) (omega arith) clear
 
-    fine-alone : fault_of (after (state block 4 0 0 behind k) v) ≡ Fine
+    fine-alone : fault_of (after (state block 4 0 0 behind k) v) ≡ Ok tt
     unfolding run_of opening after
     fine-alone = ap (λ (c : Course). c.fault) run_alone ∙ next-fine k (behind - (length v - 4))
 
     after_block : (y : List ℕ) → after (state block 4 0 0 behind k) (v ++ y) ≡ after next_one y
     unfolding next_block
     after_block y =
-        by_first (λ s. Bytes s → length s ≡ block_length s → block_fault (behind + 4) s ≡ Fine
-        → fault_of (after (state block 4 0 0 behind k) s) ≡ Fine
+        by_first (λ s. Bytes s → length s ≡ block_length s → block_fault (behind + 4) s ≡ Ok tt
+        → fault_of (after (state block 4 0 0 behind k) s) ≡ Ok tt
         → after (state block 4 0 0 behind k) (s ++ y) ≡ after (next_block (bare k) (behind - (length s - 4))) y)
         (λ a b c d x. after-four a b c d x y) v (omega arith) u l f fine-alone
 
@@ -160,12 +160,12 @@ module _ (k : Known) (behind : ℕ) where
         ∙ (rw (shows-alone, after-alone) (append_assoc (block_events v) (end_in next_one) (shows next_one y)))
 
 pub block-after : (k : Known) (behind : ℕ) (v y : List ℕ) → Bytes v → length v ≡ block_length v
-    → block_fault (behind + 4) v ≡ Fine → lost_fault (kind_of (type_of v)) v ≡ Fine
+    → block_fault (behind + 4) v ≡ Ok tt → lost_fault (kind_of (type_of v)) v ≡ Ok tt
     → after (state block 4 0 0 behind k) (v ++ y) ≡ after (next_block k (behind - (length v - 4))) y
 block-after k behind v y u l f c = after_block k behind v u l f c y
 
 pub block-shows : (k : Known) (behind : ℕ) (v y : List ℕ) → Bytes v → length v ≡ block_length v
-    → block_fault (behind + 4) v ≡ Fine → lost_fault (kind_of (type_of v)) v ≡ Fine
+    → block_fault (behind + 4) v ≡ Ok tt → lost_fault (kind_of (type_of v)) v ≡ Ok tt
     → let st = next_block k (behind - (length v - 4)) in
     shows (state block 4 0 0 behind k) (v ++ y) ≡ block_events v ++ (end_in st ++ shows st y)
 block-shows k behind v y u l f c = shows-block k behind v u l f c y

@@ -1,6 +1,7 @@
 -- The words of a block of type 1 or 2, as far as their bytes have come. Assumes bytes below 256.
 --     Stands     position p of a range is the next one; StandsIn, in a block of so many bytes
 --     words      words in a row list the numbers from position p on, up to a run of no length
+use Rattle.std.specs.Prelude.{Ok, Err}
 use Prim.Native.Nat.{ℕ, ◌+◌, ◌*◌, ◌-◌}
 use mathlib.Core.Path.{◌≡◌, refl, sym, ◌∙◌}
 use mathlib.Core.List.{List, [], ◌∷◌, ◌++◌, map, map-append}
@@ -8,11 +9,10 @@ use native.Mathlib.Omega.{arith}
 use lib.ListN.{length, take}
 use lib.Dec.{eqb}
 use borrow.Author.Tests.{eqb-true, eqb-false}
+use Rattle.def_refusals.specs.Answers.{Or}
 use Rattle.laws.proofs.Tests.{either}
 use Rattle.utils.proofs.BytesLaws.{Bytes, pair_up-end}
 use Rattle.utils.proofs.ClearLaws.{clear-fine, clear-lost, has-nil, has_here, has-behind}
-use Rattle.def_refusals.specs.declared.Checked.{Checked}
-use Rattle.def_refusals.specs.declared.Checked.TheVariants.{Fine, Unfit}
 use Rattle.def_wire.specs.Bytes.{be16, words16, pair_up, four}
 use Rattle.def_wire.specs.Block.{block_length, lost_run, clear_rule}
 use Rattle.def_standard.specs.declared.Range.{Range}
@@ -119,15 +119,15 @@ module _ (g : Range) (l : ℕ) where
     word-fault : item_fault (whole word 2 (2 + rest - 2) behind k bs) ≡ clear_rule l (be16 bs 0 ∷ [])
     word-fault = rw (held_two word refl bs e y, s.length)
 
-    word-by : (f : Checked) → clear_rule l (be16 bs 0 ∷ []) ≡ f
+    word-by : (f : Or (Unit {0})) → clear_rule l (be16 bs 0 ∷ []) ≡ f
         → run_of (state word 2 0 (2 + rest - 2) behind k) (bs ++ x)
         ≡ unless f (then (word_shown p bs) (opening (opened (moved k (covers_of (be16 bs 0))) rest behind word 2) x))
     unfolding passed shown_by
-    word-by Fine f =
+    word-by (Ok _) f =
         let r : 2 + rest - 2 ≡ rest = omega arith in
         item-passed word 2 (2 + rest - 2) behind k bs x (omega arith) e (word-fault ∙ f)
         ∙ (rw (held_two word refl bs e y, numbers-stand g p k s.stands (be16 bs 0), r))
-    word-by (Unfit r) f = item_refused word 2 (2 + rest - 2) behind k bs x (omega arith) e r (word-fault ∙ f)
+    word-by (Err r) f = item_refused word 2 (2 + rest - 2) behind k bs x (omega arith) e r (word-fault ∙ f)
 
   pub words : Units word 2 2 (StandsIn g l) (λ p bs. numbers_then g l p (words16 bs))
   words =

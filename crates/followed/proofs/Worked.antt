@@ -1,12 +1,10 @@
 -- Whole by computation: what the questions answer of packets with a block of each kind, as events; and which blocks are
 -- fit to be read.
+use Rattle.std.specs.Prelude.{Ok, Err, Some, None}
 use Prim.Native.Nat.{ℕ}
 use mathlib.Core.Path.{◌≡◌, refl}
 use mathlib.Core.List.{List, [], ◌∷◌, ◌++◌}
 use Rattle.def_refusals.specs.declared.Refusal.TheVariants.{BadBlockLength}
-use Rattle.def_refusals.specs.declared.Checked.TheVariants.{Fine, Unfit}
-use Rattle.def_wire.specs.declared.CountOr.TheVariants.{Counted, Uncounted}
-use Rattle.def_wire.specs.declared.JitterOr.TheVariants.{NoJitter}
 use Rattle.def_wire.specs.declared.HopsOr.TheVariants.{Ttl}
 use Rattle.def_wire.specs.Bytes.{pair_up}
 use Rattle.def_wire.specs.Packet.{place_of}
@@ -63,9 +61,9 @@ whole-summary : whole_of (128 ∷ 207 ∷ 0 ∷ 11 ∷ 0 ∷ 0 ∷ 0 ∷ 1 ∷ s
       ssrc = 7;
       begin = 10;
       end = 20;
-      lost = Uncounted;
-      duplicates = Counted 4;
-      jitter = NoJitter;
+      lost = None;
+      duplicates = Some 4;
+      jitter = None;
       hops = Ttl (byte_spread 61 64 62 1);
     })
     ∷ End
@@ -73,11 +71,11 @@ whole-summary : whole_of (128 ∷ 207 ∷ 0 ∷ 11 ∷ 0 ∷ 0 ∷ 0 ∷ 1 ∷ s
 unfolding place_of rle_of ranged_of kind_of standard_rule fitness check_of summary_from summary_of kind_part parts_from
 whole-summary = refl
 
-fit-summary : fit_of summary ≡ Fine
+fit-summary : fit_of summary ≡ Ok tt
 unfolding rle_of ranged_of kind_of standard_rule fitness
 fit-summary = refl
 
-unfit-summary : fit_of (summary ++ (0 ∷ 0 ∷ 0 ∷ 0 ∷ [])) ≡ Unfit (BadBlockLength 40 44)
+unfit-summary : fit_of (summary ++ (0 ∷ 0 ∷ 0 ∷ 0 ∷ [])) ≡ Err (BadBlockLength 40 44)
 unfolding rle_of ranged_of kind_of standard_rule fitness
 unfit-summary = refl
 
@@ -85,18 +83,18 @@ unfit-summary = refl
 abbrev spans : ℕ → ℕ → ℕ → List ℕ
 spans t hi lo = t ∷ 0 ∷ 0 ∷ 3 ∷ 0 ∷ 0 ∷ 0 ∷ 7 ∷ 0 ∷ 10 ∷ 0 ∷ 14 ∷ 64 ∷ 1 ∷ hi ∷ lo ∷ []
 
-unfit-word : fit_of (spans 1 64 0) ≡ Unfit (BadBlockLength 12 16)
+unfit-word : fit_of (spans 1 64 0) ≡ Err (BadBlockLength 12 16)
 unfolding pair_up rle_of ranged_of kind_of standard_rule fitness has clear_rule
 unfit-word = refl
 
-fit_word : fit_of (spans 1 64 1) ≡ Fine
+fit_word : fit_of (spans 1 64 1) ≡ Ok tt
 unfolding pair_up rle_of ranged_of kind_of standard_rule fitness has clear_rule
 fit_word = refl
 
-fit-time : fit_of (spans 3 64 0) ≡ Fine
+fit-time : fit_of (spans 3 64 0) ≡ Ok tt
 unfolding pair_up rle_of ranged_of kind_of standard_rule fitness has clear_rule
 fit-time = refl
 
-fit-other : fit_of (spans 9 64 0) ≡ Fine
+fit-other : fit_of (spans 9 64 0) ≡ Ok tt
 unfolding pair_up rle_of ranged_of kind_of standard_rule fitness has clear_rule
 fit-other = refl

@@ -4,21 +4,15 @@
 --     part_of       the events of a block, from what the questions about its view answer
 --     parts_from    those of so many blocks, from block k on
 --     whole_of      those of a packet of n blocks
-use Rattle.std.specs.Prelude.{ℕ, zero, suc, List, [], ◌∷◌, ◌++◌, map}
-use Rattle.def_refusals.specs.declared.Checked.{Checked}
-use Rattle.def_refusals.specs.declared.Checked.TheVariants.{Fine}
-use Rattle.def_refusals.specs.Answers.{Or, shown, refused}
+use Rattle.std.specs.Prelude.{ℕ, zero, suc, List, [], ◌∷◌, ◌++◌, map, Option, Ok, Err, Some, None}
+use Rattle.def_wire.specs.declared.Summary.{Summary}
+use Rattle.def_wire.specs.declared.LongTime.{LongTime}
+use Rattle.def_wire.specs.declared.Kind.{Kind}
+use Rattle.def_wire.specs.declared.Fields.{Fields}
+use Rattle.def_refusals.specs.Answers.{Or}
 use Rattle.def_wire.specs.declared.Reading.TheVariants.{Standard}
 use Rattle.def_wire.specs.declared.Ranged.TheVariants.{Chunks, Times}
 use Rattle.def_wire.specs.declared.Kind.TheVariants.{Spans, Clock, Echoes, Statistics}
-use Rattle.def_wire.specs.declared.KindOr.{KindOr}
-use Rattle.def_wire.specs.declared.KindOr.TheVariants.{AKind, NoKind}
-use Rattle.def_wire.specs.declared.FieldsOr.{FieldsOr}
-use Rattle.def_wire.specs.declared.FieldsOr.TheVariants.{Shown, NoneOf}
-use Rattle.def_wire.specs.declared.TimeOr.{TimeOr}
-use Rattle.def_wire.specs.declared.TimeOr.TheVariants.{Time, NoTime}
-use Rattle.def_wire.specs.declared.SummaryOr.{SummaryOr}
-use Rattle.def_wire.specs.declared.SummaryOr.TheVariants.{Stated, NoSummary}
 use Rattle.def_wire.specs.Packet.{announced_of, ssrc_of, length_at, place_of, part}
 use Rattle.def_wire.specs.Block.{type_of, block_length, kind_of, fitness, fields_of, time_of}
 use Rattle.def_wire.specs.Summary.{summary_of}
@@ -32,39 +26,39 @@ abbrev pub view_of : List ℕ → ℕ → List ℕ
 view_of s k = part s (place_of s k) (length_at s (place_of s k))
 
 -- a block of no kind is fit to be read: there is nothing to ask
-abbrev pub fit_as : KindOr → List ℕ → Checked
-fit_as (AKind k) v = fitness Standard k v
-fit_as NoKind v = Fine
+abbrev pub fit_as : Option Kind → List ℕ → Or (Unit {0})
+fit_as (Some k) v = fitness Standard k v
+fit_as None v = Ok tt
 
-abbrev pub fit_of : List ℕ → Checked
+abbrev pub fit_of : List ℕ → Or (Unit {0})
 fit_of v = fit_as (kind_of (type_of v)) v
 
 -- a list that was asked for; nothing where it is refused
 abbrev pub list_of : {A : Type 0} → (A → Event) → Or (List A) → List Event
-list_of e (shown l) = map e l
-list_of e (refused x) = []
+list_of e (Ok l) = map e l
+list_of e (Err x) = []
 
 -- the fields, and then a list
-abbrev pub ranged_part : List ℕ → FieldsOr → List Event → List Event
-ranged_part v (Shown f) es = RangedStart (type_of v) (block_length v) f ∷ es
-ranged_part v (NoneOf x) es = []
+abbrev pub ranged_part : List ℕ → Or Fields → List Event → List Event
+ranged_part v (Ok f) es = RangedStart (type_of v) (block_length v) f ∷ es
+ranged_part v (Err x) es = []
 
-abbrev pub time_part : TimeOr → List Event
-time_part (Time t) = TimeEvent t ∷ []
-time_part (NoTime x) = []
+abbrev pub time_part : Or LongTime → List Event
+time_part (Ok t) = TimeEvent t ∷ []
+time_part (Err x) = []
 
-abbrev pub summary_part : SummaryOr → List Event
-summary_part (Stated s) = Summed s ∷ []
-summary_part (NoSummary x) = []
+abbrev pub summary_part : Or Summary → List Event
+summary_part (Ok s) = Summed s ∷ []
+summary_part (Err x) = []
 
-unfoldable pub kind_part : KindOr → List ℕ → List Event
-kind_part (AKind (Spans (Chunks a))) v =
+unfoldable pub kind_part : Option Kind → List ℕ → List Event
+kind_part (Some (Spans (Chunks a))) v =
     ranged_part v (fields_of Standard (Chunks a) v) (list_of Number (numbers_shown Standard a v))
-kind_part (AKind (Spans Times)) v = ranged_part v (fields_of Standard Times v) (list_of Pair (pairs_shown Standard v))
-kind_part (AKind Clock) v = start_of v ∷ time_part (time_of Standard v)
-kind_part (AKind Echoes) v = start_of v ∷ list_of Entry (entries_shown Standard v)
-kind_part (AKind Statistics) v = start_of v ∷ summary_part (summary_of Standard v)
-kind_part NoKind v = start_of v ∷ []
+kind_part (Some (Spans Times)) v = ranged_part v (fields_of Standard Times v) (list_of Pair (pairs_shown Standard v))
+kind_part (Some Clock) v = start_of v ∷ time_part (time_of Standard v)
+kind_part (Some Echoes) v = start_of v ∷ list_of Entry (entries_shown Standard v)
+kind_part (Some Statistics) v = start_of v ∷ summary_part (summary_of Standard v)
+kind_part None v = start_of v ∷ []
 
 abbrev pub part_of : List ℕ → List Event
 part_of v = kind_part (kind_of (type_of v)) v

@@ -1,6 +1,6 @@
--- A packet's first bytes, zero bytes one by one, and padding. Assumes nothing.
+-- A packet's first bytes, zero bytes, and padding. Assumes nothing.
 --     piece, told              a store known by an equation, and the same list told otherwise
---     zeros-begun, ..          zero bytes one by one
+--     part-stored              a part filled with zeros is a store of zeros
 --     padding_bytes-last        the padding: zeros, and the count
 --     header-wrote             a packet's first eight bytes
 use Prim.Native.Nat.{ℕ, zero, suc, ◌+◌, ◌*◌, ◌-◌, ◌/◌, ◌%◌, ◌≤◌, ◌<◌}
@@ -8,13 +8,15 @@ use mathlib.Core.Path.{◌≡◌, refl, ap, ap₂, ◌∙◌}
 use mathlib.Core.List.{List, [], ◌∷◌, ◌++◌}
 use native.Mathlib.Omega.{arith}
 use lib.Dec.{eqb, lit<}
-use lib.ListN.{length, replicate, length-replicate}
-use lib.Seq.{sets}
+use lib.ListN.{length, replicate, take, drop}
+use Rattle.std.proofs.Common.{append_assoc, drop-drop, length-drop}
+use Rattle.std.proofs.lemmas.List.{length-replicate, length-take-le}
+use borrow.Rule.Slice.PartMut.{put_mid}
+use lib.Seq.{sets, sets-eq}
 use Rattle.def_wire.specs.Bytes.{two, four}
 use Rattle.laws.specs.Stores.{Wrote}
 use Rattle.laws.proofs.Tests.{both}
 use Rattle.laws.proofs.Stores.{and_then}
-use Rattle.laws.proofs.Filling.{Storing, start}
 use Rattle.utils.proofs.StoresLaws.{two-low}
 use Rattle.def_jobs.specs.Layout.{first_byte, padding_bytes}
 
@@ -26,18 +28,16 @@ piece l m vs n e = record { stored = e; past = refl }
 pub told : {l m a b : List ℕ} {i j : ℕ} → a ≡ b → Wrote l i a m j → Wrote l i b m j
 told e w = rw (← e) w
 
-pub zeros-begun : (l : List ℕ) (at count : ℕ) → at + count ≤ length l
-    → Storing l at (replicate count 0) l (replicate (at + count - at) 0) at
-zeros-begun l at count h =
-    let e : at + count - at ≡ count = omega arith in
-    rw e (start (omega (arith, length-replicate {A = ℕ} count 0)))
-
-module _ (n end : ℕ) where
-  pub zeros-next : n < end → replicate {A = ℕ} (end - n) 0 ≡ 0 ∷ replicate (end - (n + 1)) 0
-  zeros-next h = let e : end - n ≡ suc (end - (n + 1)) = omega arith in rw e
-
-  pub zeros-none : end ≤ n → replicate {A = ℕ} (end - n) 0 ≡ []
-  zeros-none h = let e : end - n ≡ 0 = omega arith in rw e
+-- a part that holds so many zeros now, where it held k bytes before
+pub part-stored : {l ys : List ℕ} {at n k : ℕ} → k ≡ n → at + n ≤ length l
+    → ys ≡ replicate (length (take k (drop at l))) 0 → Wrote l at (replicate n 0) (put_mid at k l ys) (at + n)
+part-stored {l} {ys} {at} {n} {k} j h e =
+    let r : length (replicate {A = ℕ} n 0) ≡ n = length-replicate n 0 in
+    let m : length (take k (drop at l)) ≡ n = length-take-le k (drop at l) (omega (arith, length-drop at l)) ∙ j in
+    record {
+      stored = rw (e, m, j, drop-drop n at l, ← append_assoc (take at l) (replicate n 0) (drop (at + n) l), sets-eq (replicate {A = ℕ} n 0) l at (omega arith), r);
+      past = rw r;
+    }
 
 -- the count is the last byte
 pub padding_bytes-last : (n : ℕ) → 0 < n → replicate (n - 1) 0 ++ (n ∷ []) ≡ padding_bytes n

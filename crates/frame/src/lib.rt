@@ -35,12 +35,8 @@ fn zero_bytes(out: &mut [u8], at: usize, count: usize) -> usize
     ensures { Wrote out.old at (replicate count 0) out.new result }
 {
     let end = at + count;
-    let mut n = at;
-    while n < end {
-        out[n] = 0;
-        n += 1;
-    }
-    n
+    out[at..end].fill(0);
+    end
 }
 
 // The padding of so many bytes: zeros, and their count last (RFC 3550, 6.4.1). The Rust's XrBuilder has none.

@@ -4,6 +4,7 @@
 --     list-jobs         its records
 --     loss-fields, ..   what the second asks for
 --     list-good         neither is bad, where no word is a run of no length
+use Rattle.std.specs.Prelude.{Ok}
 use Prim.Native.Nat.{ℕ, zero, suc, ◌+◌, ◌*◌, ◌-◌, ◌/◌, ◌%◌, ◌≤◌, ◌<◌}
 use mathlib.Core.Path.{◌≡◌, refl, sym, ap, subst, ◌∙◌}
 use mathlib.Core.Bool.{true, false}
@@ -12,7 +13,6 @@ use native.Mathlib.Omega.{arith}
 use lib.ListN.{length, drop, length-append}
 use lib.Seq.{take-append_seam, drop-append_seam, drop-drop}
 use borrow.Author.Tests.{le-leb, lt-leb}
-use Rattle.def_refusals.specs.declared.Checked.TheVariants.{Fine}
 use Rattle.def_wire.specs.Block.{rle_of, ranged_of, kind_of, lost_run, has}
 use Rattle.def_jobs.specs.Jobs.{le16, le32, pair_low, Job, is_whole, job_at, jobs_from, jobs_of, sender_of}
 use Rattle.def_jobs.specs.Jobs.{is_header_job, job_fields, job_words, is_block_job, jobs_fault}
@@ -180,6 +180,6 @@ module _ (media b e : ℕ) (ws : List ℕ) where
       rw (le-leb 10 (length (loss_job media b e ws).body) (omega (arith, n)), r, c)
 
 pub list-good : (sender media b e : ℕ) (ws : List ℕ) → has lost_run (job_words (loss_job media b e ws)) ≡ false
-    → jobs_fault 0 (header_job sender ∷ loss_job media b e ws ∷ []) ≡ Fine
+    → jobs_fault 0 (header_job sender ∷ loss_job media b e ws ∷ []) ≡ Ok tt
 unfolding jobs_fault
 list-good sender media b e ws c = rw (header-good sender, loss-good media b e ws c)

@@ -3,6 +3,7 @@
 --     report-written     it is never refused but for room
 --     report-asks        its one record asks for the numbers heard
 --     report-old         an old reader of the careful packet shows the same
+use Rattle.std.specs.Prelude.{Ok, Err, Some}
 use Prim.Native.Nat.{ℕ, ◌≤◌, ◌<◌}
 use mathlib.Core.Path.{◌≡◌, refl, ap, ap₂, ◌∙◌}
 use mathlib.Core.Bool.{Bool, true, false, cond, ◌&&◌}
@@ -12,13 +13,10 @@ use lib.ListN.{length, length-append}
 use borrow.Author.Tests.{le-ltb}
 use Rattle.laws.proofs.Tests.{and_false_r}
 use Rattle.def_refusals.specs.declared.Refusal.TheVariants.{Misleads}
-use Rattle.def_refusals.specs.declared.Checked.TheVariants.{Fine, Unfit}
-use Rattle.def_refusals.specs.Answers.{shown}
 use Rattle.def_wire.specs.declared.Reading.TheVariants.{Crate}
 use Rattle.def_wire.specs.declared.Rle.TheVariants.{Loss}
 use Rattle.def_wire.specs.declared.Ranged.TheVariants.{Chunks}
 use Rattle.def_wire.specs.declared.Kind.TheVariants.{Spans}
-use Rattle.def_wire.specs.declared.KindOr.TheVariants.{AKind}
 use Rattle.def_wire.specs.declared.Fields.{Fields}
 use Rattle.def_wire.specs.Block.{rle_of, ranged_of, kind_of, lost_run, has}
 use Rattle.def_standard.specs.Range.{range_of}
@@ -75,7 +73,7 @@ module _ (sender media b : ℕ) (ms : List ℕ) (m : media < 4294967296) (h : b 
 
   -- ---- written
 
-  report-size : (layout : Layout) → layout_fault layout (first ∷ second ∷ []) ≡ Fine
+  report-size : (layout : Layout) → layout_fault layout (first ∷ second ∷ []) ≡ Ok tt
   unfolding layout_of blocks_bytes
   report-size layout =
       let l = block-fits layout second (loss-good media b (end_of b ms) (words_of ms) loss-clear) in
@@ -103,14 +101,14 @@ module _ (sender media b : ℕ) (ms : List ℕ) (m : media < 4294967296) (h : b 
   quiet : misled_words (job_fields second) (job_words second) ≡ false
   quiet = ap₂ misled_words fields-are words_are ∙ quiet-heard media b ms h k marks
 
-  not-misled : misled_fault 0 (second ∷ []) ≡ Fine
+  not-misled : misled_fault 0 (second ∷ []) ≡ Ok tt
   unfolding misled_fault misled_by kind_of ranged_of rle_of
   not-misled =
       let e : (is_block_job second && misled_words (job_fields second) (job_words second)) ≡ false =
       ap (λ (x : Bool). is_block_job second && x) quiet ∙ and_false_r (is_block_job second) in
-      ap (λ (x : Bool). cond x (Unfit (Misleads 0)) Fine) e
+      ap (λ (x : Bool). cond x (Err (Misleads 0)) (Ok tt)) e
 
-  never-fifteen : (layout : Layout) → mislead_fault layout (layout_of layout (first ∷ second ∷ [])) 1 ≡ Fine
+  never-fifteen : (layout : Layout) → mislead_fault layout (layout_of layout (first ∷ second ∷ [])) 1 ≡ Ok tt
   never-fifteen Plain = refl
   never-fifteen Careful =
       careful-fault first (second ∷ []) (layout_of Careful (first ∷ second ∷ [])) (report-fit Careful) bodies-are.0
@@ -118,7 +116,7 @@ module _ (sender media b : ℕ) (ms : List ℕ) (m : media < 4294967296) (h : b 
       ∙ not-misled
 
   pub report-written : (layout : Layout)
-      → packet_of layout (report_of sender media b ms) ≡ shown (layout_of layout (first ∷ second ∷ []))
+      → packet_of layout (report_of sender media b ms) ≡ Ok (layout_of layout (first ∷ second ∷ []))
   unfolding packet_of write_fault
   report-written layout =
       rw (
@@ -130,7 +128,7 @@ module _ (sender media b : ℕ) (ms : List ℕ) (m : media < 4294967296) (h : b 
 
   -- ---- the old reading
 
-  old-numbers : (good : is_body (AKind (Spans (Chunks Loss))) second ≡ true) (body : Body second)
+  old-numbers : (good : is_body (Some (Spans (Chunks Loss))) second ≡ true) (body : Body second)
       → length (chunks_block Loss second) ≤ max_bytes → crate_numbers (chunks_block Loss second ++ []) ≡ heard_of b ms
   old-numbers good body small =
       crate-same Loss second good body [] small quiet
@@ -139,7 +137,7 @@ module _ (sender media b : ℕ) (ms : List ℕ) (m : media < 4294967296) (h : b 
 
   -- of the careful block, with nothing behind it
   pub report-old : record_of Crate (block_bytes Careful second ++ [])
-      ≡ shown (reported Loss (heard_fields media b ms) (heard_of b ms))
+      ≡ Ok (reported Loss (heard_fields media b ms) (heard_of b ms))
   unfolding block_bytes is_block_job kind_of ranged_of rle_of
   report-old =
       let good : is_block_job second ≡ true = loss-good media b (end_of b ms) (words_of ms) loss-clear in
@@ -147,4 +145,4 @@ module _ (sender media b : ℕ) (ms : List ℕ) (m : media < 4294967296) (h : b 
       let small : length (chunks_block Loss second) ≤ max_bytes =
       omega (arith, block-fits Careful second good, length-loss media b (end_of b ms) (words_of ms), few) in
       crate-shows Loss second good body [] small
-      ∙ ap₂ (λ (f : Fields) (l : List ℕ). shown (reported Loss f l)) fields-are (old-numbers good body small)
+      ∙ ap₂ (λ (f : Fields) (l : List ℕ). Ok (reported Loss f l)) fields-are (old-numbers good body small)

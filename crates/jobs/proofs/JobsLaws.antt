@@ -4,6 +4,7 @@
 --     behind-none, ..         the records behind another one
 --     fault-*                 12, where the first record is bad and where it is good
 --     fine-*                  what it says that 12 does not apply
+use Rattle.std.specs.Prelude.{Ok, Err}
 use Prim.Native.Nat.{ℕ, zero, suc, ◌+◌, ◌-◌, ◌≤◌, ◌<◌}
 use mathlib.Core.Path.{◌≡◌, refl, sym, ap, ◌∙◌}
 use mathlib.Core.Bool.{true, false, ◌&&◌}
@@ -12,10 +13,10 @@ use native.Mathlib.Omega.{arith}
 use lib.ListN.{length, drop, length-drop}
 use lib.Dec.{leb, lit<}
 use borrow.Author.Tests.{le-leb, lt-leb, leb-true, leb-false}
+use Rattle.def_refusals.specs.Answers.{Or}
 use Rattle.laws.proofs.Tests.{either, and-true}
 use Rattle.def_refusals.specs.declared.Refusal.{Refusal}
 use Rattle.def_refusals.specs.declared.Refusal.TheVariants.{BadRecord}
-use Rattle.def_refusals.specs.declared.Checked.TheVariants.{Fine, Unfit}
 use Rattle.def_jobs.specs.Jobs.{Job, le32, is_whole, job_at, cut_job, jobs_from, jobs_of, is_header_job, is_block_job, is_good}
 use Rattle.def_jobs.specs.Jobs.{jobs_fault}
 use Rattle.jobs.specs.Places.{jobs_behind}
@@ -95,11 +96,11 @@ pub fault-good : (i : ℕ) (j : Job) (js : List Job) → is_good i j ≡ true �
 unfolding jobs_fault
 fault-good i j js e = rw e
 
-pub fault-bad : (i : ℕ) (j : Job) (js : List Job) → is_good i j ≡ false → jobs_fault i (j ∷ js) ≡ Unfit (BadRecord i)
+pub fault-bad : (i : ℕ) (j : Job) (js : List Job) → is_good i j ≡ false → jobs_fault i (j ∷ js) ≡ Err (BadRecord i)
 unfolding jobs_fault
 fault-bad i j js e = rw e
 
-pub fault-none : (i : ℕ) → jobs_fault i [] ≡ Fine
+pub fault-none : (i : ℕ) → jobs_fault i [] ≡ Ok tt
 unfolding jobs_fault
 fault-none i = refl
 
@@ -111,16 +112,16 @@ cut-bad (suc i) = rw (kind_of-none 65536 (lit< tt))
 
 -- so the list is bad where its first record is not whole and good
 pub fault-first : (i : ℕ) (s : List ℕ) → (is_whole s && is_good i (job_at s)) ≡ false
-    → jobs_fault i (jobs_of s) ≡ Unfit (BadRecord i)
+    → jobs_fault i (jobs_of s) ≡ Err (BadRecord i)
 fault-first i s e =
     either (is_whole s)
     (λ w. rw (jobs-next s w) (fault-bad i (job_at s) _ (rw w at e)))
     (λ w. rw (jobs-cut s w) (fault-bad i cut_job [] (cut-bad i)))
 
 -- where 12 does not apply, the first record is whole and good, and so are those behind it
-not-fine : {P : Type 0} {x : Refusal} → Unfit x ≡ Fine → P
+not-fine : {P : Type 0} {x : Refusal} → ◌≡◌ {A = Or (Unit {0})} (Err x) (Ok tt) → P
 not-fine {x = x} e = let z : ◌≡◌ {A = ℕ} 0 1 = cc in absurd (omega arith)
 
-pub fine-first : (i : ℕ) (s : List ℕ) → jobs_fault i (jobs_of s) ≡ Fine → (is_whole s && is_good i (job_at s)) ≡ true
+pub fine-first : (i : ℕ) (s : List ℕ) → jobs_fault i (jobs_of s) ≡ Ok tt → (is_whole s && is_good i (job_at s)) ≡ true
 fine-first i s e =
     either (is_whole s && is_good i (job_at s)) (λ t. t) (λ t. not-fine (sym (fault-first i s t) ∙ e))

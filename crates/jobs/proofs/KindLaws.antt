@@ -1,19 +1,18 @@
 -- The kind of block that a record asks for. Assumes nothing.
 --     kind_of-none            no kind is over 6
 --     kind-is, kind-spans    a record's kind, as it was told apart
+use Rattle.std.specs.Prelude.{Option, Some, None}
 use Prim.Native.Nat.{ℕ, ◌<◌}
 use mathlib.Core.Path.{◌≡◌}
 use native.Mathlib.Omega.{arith}
 use borrow.Author.Tests.{ne_eqb}
 use Rattle.def_wire.specs.declared.Ranged.{Ranged}
 use Rattle.def_wire.specs.declared.Kind.{Kind}
-use Rattle.def_wire.specs.declared.KindOr.{KindOr}
 use Rattle.def_wire.specs.declared.Kind.TheVariants.{Spans}
-use Rattle.def_wire.specs.declared.KindOr.TheVariants.{AKind, NoKind}
 use Rattle.def_wire.specs.Block.{rle_of, ranged_of, kind_of}
 
 -- no kind over 6
-pub kind_of-none : (t : ℕ) → 6 < t → kind_of t ≡ NoKind
+pub kind_of-none : (t : ℕ) → 6 < t → kind_of t ≡ None
 unfolding kind_of ranged_of rle_of
 kind_of-none t h =
     rw (
@@ -26,9 +25,9 @@ kind_of-none t h =
     )
 
 -- the kind of a record, as it was told apart
-pub kind-is : {o z : KindOr} {k x : Kind} → o ≡ z → o ≡ AKind k → k ≡ x → z ≡ AKind x
+pub kind-is : {o z : Option Kind} {k x : Kind} → o ≡ z → o ≡ Some k → k ≡ x → z ≡ Some x
 kind-is e p q = cc
 
-pub kind-spans : {o z : KindOr} {k : Kind} {g x : Ranged} → o ≡ z → o ≡ AKind k → k ≡ Spans g → g ≡ x
-    → z ≡ AKind (Spans x)
+pub kind-spans : {o z : Option Kind} {k : Kind} {g x : Ranged} → o ≡ z → o ≡ Some k → k ≡ Spans g → g ≡ x
+    → z ≡ Some (Spans x)
 kind-spans e p q r = cc

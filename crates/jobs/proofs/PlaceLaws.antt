@@ -10,9 +10,7 @@ use mathlib.Core.List.{List, ◌∷◌}
 use native.Mathlib.Omega.{arith}
 use lib.ListN.{length, take, drop, length-drop, length-take}
 use lib.Seq.{drop-drop}
-use lib.Dec.{leb}
-use borrow.Author.Tests.{le-leb, lt-leb, leb-true, leb-false}
-use Rattle.laws.proofs.Tests.{either}
+use borrow.Author.Tests.{lt-leb}
 use Rattle.utils.proofs.PartLaws.{drop-cut}
 use Rattle.def_wire.specs.Packet.{start_from}
 use Rattle.def_jobs.specs.Jobs.{le16, le32, is_whole, job_at}
@@ -20,22 +18,9 @@ use Rattle.little_endian.proofs.LowLaws.{le32-here}
 use Rattle.jobs.specs.Places.{job_of, next_job, jobs_behind}
 use Rattle.jobs.proofs.JobsLaws.{whole_is, behind-some, jobs-next}
 
--- so many bytes behind the first six
-behind-six : (n left : ℕ) → 6 ≤ left → leb (6 + n) left ≡ leb n (left - 6)
-behind-six n left h =
-    either (leb (6 + n) left)
-    (λ t. let k : 6 + n ≤ left = leb-true _ _ t in t ∙ sym (le-leb n (left - 6) (omega arith)))
-    (λ t. let k : left < 6 + n = leb-false _ _ t in t ∙ sym (lt-leb n (left - 6) (omega arith)))
-
 module _ (list : List ℕ) (at left : ℕ) (e : left ≡ length list - at) where
   pub whole-short : left < 6 → false ≡ is_whole (drop at list)
   whole-short h = let k : length (drop at list) < 6 = omega (arith, length-drop at list) in rw (lt-leb _ _ k)
-
-  pub whole-body : (n : ℕ) → 6 ≤ left → n ≡ le32 list at → leb (6 + n) left ≡ is_whole (drop at list)
-  whole-body n h k =
-      let l : length (drop at list) ≡ left = omega (arith, length-drop at list) in
-      let d : le32 (drop at list) 0 ≡ n = le32-here at list ∙ sym k in
-      rw (l, d, le-leb _ _ h) (behind-six n left h)
 
 -- m is the place, or the list's end where that comes first
 module _ (list : List ℕ) (at m : ℕ) (e : m ≡ min at (length list)) where

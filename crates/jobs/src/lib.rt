@@ -8,7 +8,7 @@ ghost use Rattle.def_wire.specs.Block.{kind_of};
 ghost use Rattle.def_jobs.specs.Jobs.{is_whole, job_at, is_header_job};
 ghost use Rattle.jobs.specs.Places.{job_of, next_job};
 
-use def_wire::KindOr;
+use def_wire::Kind;
 
 fn wide32(x: u32) -> usize
     ensures { (result ≡ x) × (result ≤ 4294967295) }
@@ -91,12 +91,12 @@ pub fn is_header(kind: u16, body: &[u8]) -> bool
 }
 
 // The kind of block that a record's kind asks for, where it asks for one: the block's type (RFC 3611, 4).
-pub fn kind_of(kind: u16) -> KindOr
+pub fn kind_of(kind: u16) -> Option<Kind>
     ensures { result ≡ kind_of kind }
 {
     if kind < 256 {
         records::kind_of(kind as u8)
     } else {
-        KindOr::NoKind
+        None
     }
 }

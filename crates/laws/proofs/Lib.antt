@@ -4,4 +4,5 @@ pub mod Tests
 pub mod Stores
 pub mod Filling
 pub mod Answering
+pub mod Passing
 pub mod Determined

@@ -1,3 +1,4 @@
--- LowLaws (little-endian numbers and words), Unique (no second answer).
+-- LowLaws (little-endian numbers and words), SwapLaws (their big-endian bytes), Unique (no second answer).
 pub mod LowLaws
+pub mod SwapLaws
 pub mod Unique

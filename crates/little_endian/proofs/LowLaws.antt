@@ -1,5 +1,4 @@
 -- The laws of def_jobs' little-endian numbers and words. Assumes nothing.
---     le16-end, le16-past, ..  at the end, and past it
 --     le16-drop, ..            the number in what is left from a place on
 --     length-low16, ..         how many words a list of bytes has
 --     get_or-low16               a word is the number of its two bytes
@@ -11,7 +10,7 @@ use mathlib.Core.List.{List, [], ◌∷◌}
 use native.Mathlib.Nat.{add_assoc, add-zero, suc-mul}
 use native.Mathlib.Numerals.{add-one}
 use native.Mathlib.Omega.{arith}
-use lib.ListN.{length, get_or, drop, length-append, get_or-eq_default}
+use lib.ListN.{length, get_or, drop, length-append}
 use lib.Seq.{get_or-drop, drop-cons}
 use Rattle.utils.proofs.PartLaws.{drop-cut}
 use Rattle.def_wire.specs.Bytes.{byte_at}
@@ -19,19 +18,6 @@ use Rattle.def_jobs.specs.Jobs.{le16, le32, pair_low, low16, low32}
 use Rattle.def_jobs.specs.Layout.{bytes_of}
 
 -- ---- numbers
-
-byte_at-past : (s : List ℕ) (at : ℕ) → length s ≤ at → byte_at s at ≡ 0
-byte_at-past s at h = get_or-eq_default s 0 h
-
--- of the last byte alone
-pub le16-end : (s : List ℕ) (at : ℕ) → length s ≤ at + 1 → byte_at s at ≡ le16 s at
-le16-end s at h = omega (arith, byte_at-past s (at + 1) h)
-
-pub le16-past : (s : List ℕ) (at : ℕ) → length s ≤ at → le16 s at ≡ 0
-le16-past s at h = omega (arith, byte_at-past s at h, byte_at-past s (at + 1) (omega arith))
-
-pub le32-past : (s : List ℕ) (at : ℕ) → length s ≤ at → le32 s at ≡ 0
-le32-past s at h = omega (arith, le16-past s at h, le16-past s (at + 2) (omega arith))
 
 -- in what is left from k on
 pub le16-drop : (k : ℕ) (s : List ℕ) (i : ℕ) → le16 (drop k s) i ≡ le16 s (k + i)

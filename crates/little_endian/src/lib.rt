@@ -10,38 +10,26 @@ pub fn load16(s: &[u8], at: usize) -> u16
     requires { at + 2 ≤ length s.now }
     ensures { result ≡ le16 s.now at }
 {
-    utils::pair(s[at + 1], s[at])
+    u16::from_le_bytes([s[at], s[at + 1]])
 }
 
 pub fn load32(s: &[u8], at: usize) -> u32
     requires { at + 4 ≤ length s.now }
     ensures { result ≡ le32 s.now at }
 {
-    utils::join16(load16(s, at + 2), load16(s, at))
+    u32::from_le_bytes([s[at], s[at + 1], s[at + 2], s[at + 3]])
 }
 
 // The little-endian number of two bytes at an index.
 pub fn u16_from_le_bytes(s: &[u8], at: usize) -> u16
     ensures { result ≡ le16 s.now at }
 {
-    if at < s.len() {
-        if 2 <= s.len() - at {
-            return load16(s, at);
-        }
-        return utils::pair(0, s[at]);
-    }
-    0
+    utils::u16_from_be_bytes(s, at).swap_bytes()
 }
 
 // Four bytes.
 pub fn u32_from_le_bytes(s: &[u8], at: usize) -> u32
     ensures { result ≡ le32 s.now at }
 {
-    if at < s.len() {
-        if 4 <= s.len() - at {
-            return load32(s, at);
-        }
-        return utils::join16(u16_from_le_bytes(s, at + 2), u16_from_le_bytes(s, at));
-    }
-    0
+    utils::u32_from_be_bytes(s, at).swap_bytes()
 }

@@ -1,39 +1,29 @@
 -- The job list of one loss record, put together from the parts that are stored. Assumes nothing.
---     low2-low, low4-low               a number's bytes are those of its low half
---     words-next, words-none           the words' bytes, from an index of the words on
+--     part-stored                      a part that another list is copied into
 --     list_wrote                       both records
 --     length-words, length-loss_list    how many bytes there are
-use Prim.Native.Nat.{ℕ, ◌+◌, ◌*◌, ◌/◌, ◌%◌, ◌≤◌, ◌<◌}
-use mathlib.Core.Path.{◌≡◌, refl, sym, ap, ap₂, ◌∙◌}
-use mathlib.Core.List.{List, [], ◌∷◌, ◌++◌}
-use native.Mathlib.Numerals.{add-one}
+use Rattle.std.proofs.Common.{append_assoc, drop-drop, take, drop}
+use lib.Seq.{sets-eq}
+use borrow.Rule.Slice.PartMut.{put_mid}
+use Prim.Native.Nat.{ℕ, ◌+◌, ◌*◌, ◌≤◌}
+use mathlib.Core.Path.{◌≡◌, refl}
+use mathlib.Core.List.{List, ◌++◌}
 use native.Mathlib.Omega.{arith}
-use lib.ListN.{length, get_or, drop, drop_of_length-le}
-use lib.Seq.{drop-cons}
+use lib.ListN.{length}
 use Rattle.def_jobs.specs.Layout.{bytes_of}
 use Rattle.def_marks.specs.Report.{low2, low4, header_bytes, loss_list}
 use Rattle.little_endian.proofs.LowLaws.{length-bytes_of}
 use Rattle.laws.specs.Stores.{Wrote}
 use Rattle.laws.proofs.Stores.{and_then}
 
--- a number's bytes are those of its low half
-pub low2-low : (x : ℕ) → low2 (x % 65536) ≡ low2 x
-low2-low x = ap₂ (λ (a b : ℕ). a ∷ b ∷ []) (omega arith) (omega arith)
-
-pub low4-low : (x : ℕ) → low4 (x % 4294967296) ≡ low4 x
-low4-low x =
-    let y = x % 4294967296 in
-    ap₂ (λ (a b : List ℕ). a ++ b) (sym (low2-low y) ∙ ap low2 (omega arith) ∙ low2-low x)
-    (sym (low2-low (y / 65536)) ∙ ap low2 (omega arith) ∙ low2-low (x / 65536))
-
--- the words from i on
-module _ (ws : List ℕ) (i : ℕ) where
-  pub words-next : i < length ws
-      → bytes_of low2 (drop i ws) ≡ low2 (get_or ws i 0) ++ bytes_of low2 (drop (i + 1) ws)
-  words-next h = rw (add-one, drop-cons ws i 0)
-
-  pub words-none : length ws ≤ i → bytes_of low2 (drop i ws) ≡ []
-  words-none h = rw (drop_of_length-le ws h)
+-- a part of k bytes that holds a list of as many now
+pub part-stored : {l vs ys : List ℕ} {at k : ℕ} → k ≡ length vs → at + length vs ≤ length l → ys ≡ vs
+    → Wrote l at vs (put_mid at k l ys) (at + length vs)
+part-stored {l} {vs} {ys} {at} {k} j h e =
+    record {
+      stored = rw (e, j, drop-drop (length vs) at l, ← append_assoc (take at l) vs (drop (at + length vs) l), sets-eq vs l at h);
+      past = refl;
+    }
 
 pub length-words : (ws : List ℕ) → length (bytes_of low2 ws) ≡ length ws * 2
 length-words = length-bytes_of low2 2 (λ x. refl)

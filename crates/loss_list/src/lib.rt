@@ -4,35 +4,42 @@
 #![tactic(auto)]
 
 ghost use Rattle.std.specs.Prelude.{◌++◌, ◌+◌, ◌*◌, ◌≤◌, length};
-ghost use Rattle.def_refusals.specs.Answers.{shown, Listed};
+ghost use Rattle.def_refusals.specs.Answers.{Listed};
 ghost use Rattle.def_jobs.specs.Layout.{bytes_of};
 ghost use Rattle.def_marks.specs.Report.{low2, low4, header_bytes, loss_list};
 ghost use Rattle.laws.specs.Stores.{Wrote};
 
-use def_refusals::{Answer, Refusal};
+use def_refusals::Refusal;
 
 // The bytes of the two records without words, and of the second one's fields alone.
 const EMPTY: usize = 28;
 
 const FIELDS: usize = 10;
 
-// A number's two bytes at an index, the low one first; gives the index past them.
+// Bytes at an index; gives the index past them.
+fn put(out: &mut [u8], at: usize, bytes: &[u8]) -> usize
+    requires { at + length bytes.now ≤ length out.old }
+    ensures { Wrote out.old at bytes.now out.new result }
+{
+    let end = at + bytes.len();
+    out[at..end].copy_from_slice(bytes);
+    end
+}
+
+// A number's two bytes, the low one first.
 fn put2(out: &mut [u8], at: usize, x: u16) -> usize
     requires { at + 2 ≤ length out.old }
     ensures { Wrote out.old at (low2 x) out.new result }
 {
-    out[at] = (x % 256) as u8;
-    out[at + 1] = (x / 256 % 256) as u8;
-    at + 2
+    put(out, at, &x.to_le_bytes())
 }
 
 // Four bytes.
-fn put4(out: &mut [u8], at: usize, x: u32) -> usize
+fn put4(out: &mut [u8], at: usize, n: u32) -> usize
     requires { at + 4 ≤ length out.old }
-    ensures { Wrote out.old at (low4 x) out.new result }
+    ensures { Wrote out.old at (low4 n) out.new result }
 {
-    let high = put2(out, at, (x % 65536) as u16);
-    put2(out, high, (x / 65536) as u16)
+    put(out, at, &n.to_le_bytes())
 }
 
 // A record's first six bytes: its body's length in 32 bits, and its kind.
@@ -72,10 +79,8 @@ fn put_words(out: &mut [u8], at: usize, words: &[u16]) -> usize
     ensures { Wrote out.old at (bytes_of low2 words.now) out.new result }
 {
     let mut n = at;
-    let mut i: usize = 0;
-    while i < words.len() {
-        n = put2(out, n, words[i]);
-        i += 1;
+    for word in words {
+        n = put2(out, n, *word);
     }
     n
 }
@@ -100,14 +105,14 @@ pub fn loss_list(
     end: u16,
     words: &[u16],
     out: &mut [u8],
-) -> Answer
-    ensures { Listed (shown (loss_list sender media begin end words.now)) out.old result
+) -> Result<usize, Refusal>
+    ensures { Listed (Ok (loss_list sender media begin end words.now)) out.old result
         out.new }
 {
     let need = EMPTY + 2 * words.len();
     if need <= out.len() {
-        Answer::Done(put_list(sender, media, begin, end, words, out))
+        Ok(put_list(sender, media, begin, end, words, out))
     } else {
-        Answer::Refused(Refusal::NoRoom(need, out.len()))
+        Err(Refusal::NoRoom(need, out.len()))
     }
 }

@@ -6,6 +6,7 @@
 --     fault-many, fault-few           14 first
 --     asked-fine, asked-unfit         the words, or the refusal
 --     fault-fine                      no refusal: at most 65,536 bytes, each 0 or 1
+use Rattle.std.specs.Prelude.{Ok, Err}
 use Prim.Native.Nat.{ℕ, zero, suc, ◌+◌, ◌≤◌, ◌<◌}
 use mathlib.Core.Path.{◌≡◌, refl, sym, ◌∙◌}
 use mathlib.Core.List.{List, [], ◌∷◌}
@@ -13,37 +14,36 @@ use native.Mathlib.Omega.{arith}
 use lib.ListN.{length, get_or, drop, drop_of_length-le}
 use lib.Dec.{ltb, leb}
 use borrow.Author.Tests.{ltb-true, ltb-false, leb-true, le-leb, lt-leb, lt-ltb, le-ltb}
+use Rattle.def_refusals.specs.Answers.{Or}
 use Rattle.laws.proofs.Tests.{by-test, either}
 use Rattle.def_refusals.specs.declared.Refusal.{Refusal}
 use Rattle.def_refusals.specs.declared.Refusal.TheVariants.{TooMany, BadMark}
-use Rattle.def_refusals.specs.declared.Checked.TheVariants.{Fine, Unfit}
-use Rattle.def_refusals.specs.Answers.{shown, refused}
 use Rattle.def_marks.specs.Marks.{bad_from, marks_fault, marks_asked, words_of}
 use Rattle.marked.specs.Marked.{Marks}
 
 -- no refusal is one
-unfit≢fine : {P : Type 0} (x : Refusal) → Unfit x ≡ Fine → P
+unfit≢fine : {P : Type 0} (x : Refusal) → ◌≡◌ {A = Or (Unit {0})} (Err x) (Ok tt) → P
 unfit≢fine x e = absurd (let y : ◌≡◌ {A = ℕ} 0 1 = cc in omega arith)
 
 -- ---- 17
 
-pub marks-fine : (i : ℕ) (ms : List ℕ) → Marks ms → bad_from i ms ≡ Fine
+pub marks-fine : (i : ℕ) (ms : List ℕ) → Marks ms → bad_from i ms ≡ Ok tt
 unfolding bad_from
 marks-fine i [] h = refl
 marks-fine i (m ∷ ms) h = rw (le-leb m 1 (h 0)) (marks-fine (suc i) ms (λ j. h (suc j)))
 
-pub fine-marks : (i : ℕ) (ms : List ℕ) → bad_from i ms ≡ Fine → Marks ms
+pub fine-marks : (i : ℕ) (ms : List ℕ) → bad_from i ms ≡ Ok tt → Marks ms
 unfolding bad_from
 fine-marks i [] e j = omega arith
 fine-marks i (m ∷ ms) e zero = by-test (leb m 1) (λ t _. leb-true m 1 t) (λ _. unfit≢fine (BadMark i)) e
 fine-marks i (m ∷ ms) e (suc j) =
     by-test (leb m 1) (λ _ f. fine-marks (suc i) ms f j) (λ _. unfit≢fine (BadMark i)) e
 
-pub bad-end : (i k : ℕ) (ms : List ℕ) → length ms ≤ k → bad_from i (drop k ms) ≡ Fine
+pub bad-end : (i k : ℕ) (ms : List ℕ) → length ms ≤ k → bad_from i (drop k ms) ≡ Ok tt
 unfolding bad_from
 bad-end i k ms h = rw (drop_of_length-le ms h)
 
-pub bad-here : (i k : ℕ) (ms : List ℕ) → k < length ms → 1 < get_or ms k 0 → bad_from i (drop k ms) ≡ Unfit (BadMark i)
+pub bad-here : (i k : ℕ) (ms : List ℕ) → k < length ms → 1 < get_or ms k 0 → bad_from i (drop k ms) ≡ Err (BadMark i)
 unfolding bad_from
 bad-here i k [] h b = absurd (omega arith)
 bad-here i zero (m ∷ ms) h b = rw (lt-leb m 1 b)
@@ -75,7 +75,7 @@ bad-skip (suc n) i ms h each =
 -- ---- the order
 
 module _ (ms : List ℕ) where
-  pub fault-many : 65536 < length ms → marks_fault ms ≡ Unfit (TooMany (length ms) 65536)
+  pub fault-many : 65536 < length ms → marks_fault ms ≡ Err (TooMany (length ms) 65536)
   unfolding marks_fault
   fault-many h = rw (lt-ltb 65536 (length ms) h)
 
@@ -83,15 +83,15 @@ module _ (ms : List ℕ) where
   unfolding marks_fault
   fault-few h = rw (le-ltb 65536 (length ms) h)
 
-  pub asked-fine : marks_fault ms ≡ Fine → marks_asked ms ≡ shown (words_of ms)
+  pub asked-fine : marks_fault ms ≡ Ok tt → marks_asked ms ≡ Ok (words_of ms)
   unfolding marks_asked
   asked-fine e = rw e
 
-  pub asked-unfit : (x : Refusal) → marks_fault ms ≡ Unfit x → marks_asked ms ≡ refused x
+  pub asked-unfit : (x : Refusal) → marks_fault ms ≡ Err x → marks_asked ms ≡ Err x
   unfolding marks_asked
   asked-unfit x e = rw e
 
-  pub fault-fine : marks_fault ms ≡ Fine → (length ms ≤ 65536) × Marks ms
+  pub fault-fine : marks_fault ms ≡ Ok tt → (length ms ≤ 65536) × Marks ms
   unfolding marks_fault
   fault-fine e =
       either (ltb 65536 (length ms)) (λ t. unfit≢fine _ (sym (fault-many (ltb-true 65536 (length ms) t)) ∙ e))

@@ -1,6 +1,6 @@
 -- Equal marks between two places (specs/Runs). Assumes nothing.
---     same_none, same_more, same-one     none, and some more of them
---     run-found                          the run from a place on
+--     same_more                some more of them
+--     run-found                the run from a place on
 use Prim.Native.Nat.{ℕ, ◌+◌, ◌-◌, ◌≤◌, ◌<◌, min}
 use mathlib.Core.Path.{◌≡◌, sym, ◌∙◌}
 use mathlib.Core.List.{List}
@@ -16,9 +16,6 @@ use Rattle.marked.proofs.RunLaws.{run-le, run-each, run-reach, run-stop}
 use Rattle.marks.specs.Runs.{Same, Ends}
 
 module _ (ms : List ℕ) (m : ℕ) where
-  pub same_none : (from : ℕ) → Same ms m from from
-  same_none from = record { order = omega arith; each = λ j a b. absurd (omega arith) }
-
   -- some more marks are m
   pub same_more : (from to k : ℕ) → Same ms m from to → ((j : ℕ) → j < k → byte_at ms (to + j) ≡ m)
       → Same ms m from (to + k)
@@ -31,10 +28,6 @@ module _ (ms : List ℕ) (m : ℕ) where
             let e : to + (j - to) ≡ j = omega (arith, h) in
             rw (← e) (more (j - to) (omega (arith, h, b))));
       }
-
-  pub same-one : (from to : ℕ) → Same ms m from to → byte_at ms to ≡ m → Same ms m from (to + 1)
-  same-one from to s e =
-      same_more from to 1 s (λ j h. let k : to + j ≡ to = omega (arith, h) in rw k e)
 
   -- the run from a place on, found by going on from its fifteenth mark
   pub run-found : (at stop i to : ℕ) → 15 ≤ run_of m (drop at ms) → stop ≡ at + min 16383 (length ms - at)

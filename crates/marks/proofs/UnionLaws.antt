@@ -1,13 +1,18 @@
 -- The bits that some byte has. Assumes nothing.
 --     or-marks, marks-or      a union is 0 or 1 exactly where both its parts are
 --     Union                   what the bits of the first k bytes tell
---     each_in                 of a part of the marks, each
+--     block-rest, ..          a block of the marks, and what is behind it
+use Rattle.std.proofs.Common.{sym, ap, ◌∙◌, ◌++◌, drop-drop, length-drop, length-append}
+use Rattle.std.proofs.Math.Seq.{drop-append_seam}
+use Rattle.std.proofs.Math.ListN.{get_or-append}
+use Rattle.def_marks.specs.Marks.{bad_from}
+use Rattle.marked.proofs.FaultLaws.{bad-skip}
 use Prim.Native.Nat.{ℕ, zero, suc, ◌+◌, ◌≤◌, ◌<◌}
 use mathlib.Core.Path.{◌≡◌}
 use mathlib.Core.List.{List}
 use native.Mathlib.Omega.{arith}
-use lib.ListN.{length, take, drop, get_or-eq_default}
-use lib.Seq.{get_or-drop, get_or-take}
+use lib.ListN.{length, drop}
+use lib.Seq.{get_or-drop}
 use lib.Dec.{ltb}
 use borrow.Author.Tests.{ltb-true, ltb-false}
 use lib.Bits.{bit_or, or_add_and, and_le_l, and_le_r}
@@ -31,9 +36,6 @@ pub record Union (ms : List ℕ) (k seen : ℕ) : Type 0 where
   pub each : seen ≤ 1 → (j : ℕ) → j < k → byte_at ms j ≤ 1
   pub none : ((j : ℕ) → j < k → byte_at ms j ≤ 1) → seen ≤ 1
 
-pub union-none : (ms : List ℕ) → Union ms 0 0
-union-none ms = record { each = λ _ j h. absurd (omega arith); none = λ _. omega arith }
-
 pub union_more : (ms : List ℕ) (k seen : ℕ) → Union ms k seen → Union ms (k + 1) (bit_or seen (byte_at ms k))
 union_more ms k seen u =
     let x : ℕ = byte_at ms k in
@@ -45,17 +47,15 @@ union_more ms k seen u =
           marks-or seen x (u.none (λ j h. each j (omega (arith, h)))) (each k (omega arith));
     }
 
--- all bytes are looked at
-pub union-all : (ms : List ℕ) (k seen : ℕ) → length ms ≤ k → Union ms k seen
-    → (seen ≤ 1 → Marks ms) × (Marks ms → seen ≤ 1)
-union-all ms k seen h u = (
-  λ b j. either (ltb j k) (λ t. u.each b j (ltb-true j k t))
-      (λ t. let e = get_or-eq_default ms 0 {n = j} (omega (arith, h, ltb-false j k t)) in rw e (omega arith)),
-  λ marks. u.none (λ j _. marks j),
-)
+-- a block of the marks from a place on, and what is behind it
+module _ (ms : List ℕ) (at : ℕ) (block rest : List ℕ) (e : drop at ms ≡ block ++ rest) (h : at ≤ length ms) where
+  pub block-rest : rest ≡ drop (at + length block) ms
+  block-rest = sym (drop-append_seam block rest) ∙ ap (drop (length block)) (sym e) ∙ drop-drop (length block) at ms
 
--- in a part of the marks
-pub each_in : (ms : List ℕ) (at n : ℕ) {part : List ℕ} → part ≡ take n (drop at ms) → Marks part → (j : ℕ) → j < n
-    → byte_at ms (at + j) ≤ 1
-each_in ms at n e marks j h =
-    rw (← get_or-drop at ms j 0, ← get_or-take n (drop at ms) j 0 h, ← e) (marks j)
+  pub block-within : at + length block ≤ length ms
+  block-within = omega (arith, ap length e ∙ length-append block rest, length-drop at ms)
+
+  pub block-marks : Marks block → bad_from at (drop at ms) ≡ bad_from (at + length block) (drop (at + length block) ms)
+  block-marks marks =
+      bad-skip (length block) at ms block-within
+      (λ j l. rw (← get_or-drop at ms j 0, e, get_or-append block rest 0 j l) (marks j))

@@ -3,8 +3,8 @@
 // through four marks at a time. The words are counted before only where the lent list could be too short.
 #![tactic(auto)]
 
-ghost use Rattle.std.specs.Prelude.{◌≡◌, true, ◌+◌, ◌*◌, ◌≤◌, ◌<◌, length, drop};
-ghost use Rattle.def_refusals.specs.Answers.{shown, Listed};
+ghost use Rattle.std.specs.Prelude.{◌≡◌, true, ◌+◌, ◌*◌, ◌≤◌, ◌<◌, length, drop, position, nat_lt};
+ghost use Rattle.def_refusals.specs.Answers.{Listed};
 ghost use Rattle.def_marks.specs.Marks.{bits_of, is_run, run_length, word_for, taken_by, words_of, bad_from};
 ghost use Rattle.def_marks.specs.Marks.{marks_fault, marks_asked};
 ghost use Rattle.laws.specs.Stores.{Filled};
@@ -12,7 +12,7 @@ ghost use Rattle.marked.specs.Marked.{Marks};
 ghost use Rattle.marks.specs.Gathered.{gathered, joined};
 ghost use Rattle.marks.specs.Runs.{Same, Ends};
 
-use def_refusals::{Answer, Checked, Refusal};
+use def_refusals::Refusal;
 
 // The most marks, and the most words that they can need.
 const MAX_MARKS: usize = 65536;
@@ -30,49 +30,50 @@ fn union(marks: &[u8]) -> u8
     ensures { (result ≤ 1 → Marks marks.now) × (Marks marks.now → result ≤ 1) }
 {
     let mut seen: u8 = 0;
-    let mut i: usize = 0;
-    while i < marks.len() {
-        seen = seen | marks[i];
-        i += 1;
+    for mark in marks {
+        seen |= *mark;
     }
     seen
 }
 
+// Where the first byte is that is neither 0 nor 1.
+fn first_bad(marks: &[u8]) -> Option<usize>
+    ensures { result ≡ position (λ m. nat_lt 1 m) marks.now }
+{
+    marks.iter().position(|mark| 1 < *mark)
+}
+
 // 17 from a place on, with the index of the first byte that is neither 0 nor 1.
-fn first_bad(marks: &[u8], from: usize) -> Checked
+fn fault_from(marks: &[u8], from: usize) -> Result<(), Refusal>
+    requires { from ≤ length marks.now }
     ensures { result ≡ bad_from from (drop from marks.now) }
 {
-    let mut i = from;
-    while i < marks.len() {
-        if 1 < marks[i] {
-            return Checked::Unfit(Refusal::BadMark(i));
-        }
-        i += 1;
+    match first_bad(&marks[from..]) {
+        Some(i) => Err(Refusal::BadMark(from + i)),
+        None => Ok(()),
     }
-    Checked::Fine
 }
 
 // 17. Only in a block that has such a byte is it looked for.
-fn judge(marks: &[u8]) -> Checked
+fn judge(marks: &[u8]) -> Result<(), Refusal>
     ensures { result ≡ bad_from 0 marks.now }
 {
     let mut at: usize = 0;
-    while at < marks.len() {
-        let n = utils::lesser(BLOCK, marks.len() - at);
-        if 1 < union(utils::part(marks, at, n)) {
-            return first_bad(marks, at);
+    for block in marks.chunks(BLOCK) {
+        if 1 < union(block) {
+            return fault_from(marks, at);
         }
-        at += n;
+        at += block.len();
     }
-    Checked::Fine
+    Ok(())
 }
 
 // 14, then 17.
-fn fault(marks: &[u8]) -> Checked
+fn fault(marks: &[u8]) -> Result<(), Refusal>
     ensures { result ≡ marks_fault marks.now }
 {
     if MAX_MARKS < marks.len() {
-        return Checked::Unfit(Refusal::TooMany(marks.len(), MAX_MARKS));
+        return Err(Refusal::TooMany(marks.len(), MAX_MARKS));
     }
     judge(marks)
 }
@@ -159,14 +160,14 @@ fn past_fours(marks: &[u8], from: usize, stop: usize, m: u8) -> usize
     ensures { Same marks.now m from result × (result ≤ stop) }
 {
     let all = four_of(m);
-    let mut i = from;
-    while 4 <= stop - i {
+    let fours = (stop - from) / 4;
+    for k in 0..fours {
+        let i = from + 4 * k;
         if utils::load32(marks, i) != all {
             return i;
         }
-        i += 4;
     }
-    i
+    from + 4 * fours
 }
 
 // The same one by one, up to the first mark that is another.
@@ -174,14 +175,12 @@ fn past_singles(marks: &[u8], from: usize, stop: usize, m: u8) -> usize
     requires { (from ≤ stop) × (stop ≤ length marks.now) }
     ensures { Same marks.now m from result × Ends marks.now m stop result }
 {
-    let mut i = from;
-    while i < stop {
+    for i in from..stop {
         if marks[i] != m {
             return i;
         }
-        i += 1;
     }
-    i
+    stop
 }
 
 // The length of the run from a place on, at most 16,383.
@@ -263,25 +262,23 @@ fn store_words(marks: &[u8], out: &mut [u16]) -> usize
 }
 
 // The words of marks that are not refused, or 11. A list with a word for each 15 marks is long enough.
-fn make(marks: &[u8], out: &mut [u16]) -> Answer
+fn make(marks: &[u8], out: &mut [u16]) -> Result<usize, Refusal>
     requires { Marks marks.now × (length marks.now ≤ 65536) }
-    ensures { Listed (shown (words_of marks.now)) out.old result out.new }
+    ensures { Listed (Ok (words_of marks.now)) out.old result out.new }
 {
     if 15 * utils::lesser(out.len(), MAX_WORDS) < marks.len() {
         let need = count_words(marks);
         if out.len() < need {
-            return Answer::Refused(Refusal::NoRoom(need, out.len()));
+            return Err(Refusal::NoRoom(need, out.len()));
         }
     }
-    Answer::Done(store_words(marks, out))
+    Ok(store_words(marks, out))
 }
 
 // The chunk words of marks into a lent list: 14, 17, 11.
-pub fn words(marks: &[u8], out: &mut [u16]) -> Answer
+pub fn words(marks: &[u8], out: &mut [u16]) -> Result<usize, Refusal>
     ensures { Listed (marks_asked marks.now) out.old result out.new }
 {
-    match fault(marks) {
-        Checked::Fine => make(marks, out),
-        Checked::Unfit(x) => Answer::Refused(x),
-    }
+    fault(marks)?;
+    make(marks, out)
 }

@@ -2,13 +2,13 @@
 --     fielded-words, fielded-times     what a good record of types 1 to 3 has
 --     misled-bad, misled-as            whether it misleads: a bad one never, a good one by its kind
 --     shared-on, shared-off            what both readings list, by whether begin is on the grid
+use Rattle.std.specs.Prelude.{Option, Some}
 use Rattle.std.proofs.Common.{◌≡◌, ℕ, ◌+◌, ◌-◌, ◌/◌, true, false, length, sym, ◌∙◌}
+use Rattle.def_wire.specs.declared.Kind.{Kind}
 use Rattle.def_wire.specs.declared.Fields.{Fields}
 use Rattle.def_wire.specs.declared.Rle.{Rle}
 use Rattle.def_wire.specs.declared.Ranged.TheVariants.{Chunks, Times}
 use Rattle.def_wire.specs.declared.Kind.TheVariants.{Spans}
-use Rattle.def_wire.specs.declared.KindOr.{KindOr}
-use Rattle.def_wire.specs.declared.KindOr.TheVariants.{AKind}
 use Rattle.def_wire.specs.Block.{kind_of}
 use Rattle.def_standard.specs.Range.{range_of}
 use Rattle.range.specs.Grid.{on_grid}
@@ -33,14 +33,14 @@ module _ (j : Job) (behind : ℕ) where
   misled-bad b = rw b
 
   module _ (b : is_block_job j ≡ true) where
-    pub misled-as : {k : KindOr} → kind_of j.kind ≡ k → misled_as k j behind ≡ misled_by j behind
+    pub misled-as : {k : Option Kind} → kind_of j.kind ≡ k → misled_as k j behind ≡ misled_by j behind
     unfolding misled_by
     misled-as e = rw (b, e)
 
-    pub fielded-words : (a : Rle) → kind_of j.kind ≡ AKind (Spans (Chunks a)) → Fielded j.body 2
+    pub fielded-words : (a : Rle) → kind_of j.kind ≡ Some (Spans (Chunks a)) → Fielded j.body 2
     fielded-words a e = good-words j (sym (block-as j e) ∙ b)
 
-    module _ (e : kind_of j.kind ≡ AKind (Spans Times)) where
+    module _ (e : kind_of j.kind ≡ Some (Spans Times)) where
       pub fielded-times : Fielded j.body 4
       fielded-times = fields-are j 4 (sym (block-as j e) ∙ b)
 

@@ -6,6 +6,7 @@
 --     Entries, entries-hold           type 5
 --     Others, others-hold             clocks, summaries, and records that ask for no block
 --     First, first-hold               15 with the first of several records, and what stands behind each
+use Rattle.std.specs.Prelude.{Ok, Err}
 use Rattle.std.proofs.Common.{◌≡◌, ℕ, ◌*◌, ◌/◌, ◌%◌, Bool, true, false, List, [], ◌∷◌, ◌++◌, replicate, refl}
 use Rattle.def_wire.specs.Block.{rle_of, ranged_of, kind_of, has}
 use Rattle.def_standard.specs.Chunks.{values_in}
@@ -14,7 +15,6 @@ use Rattle.def_crate.specs.Sequence.{passes}
 use Rattle.range.specs.Inside.{ceil_div, inside_count}
 use Rattle.range.specs.Failing.{first_fail}
 use Rattle.def_refusals.specs.declared.Refusal.TheVariants.{Misleads}
-use Rattle.def_refusals.specs.declared.Checked.TheVariants.{Fine, Unfit}
 use Rattle.def_jobs.specs.Jobs.{Job, pair_low, is_block_job}
 use Rattle.def_jobs.specs.Layout.{block_bytes, blocks_bytes}
 use Rattle.jobs.specs.Places.{job_of}
@@ -126,13 +126,13 @@ abbrev pub summary : Job
 summary = job_of 6 (replicate 38 0)
 
 pub record First : Type 0 where
-  pub none : misled_fault 0 (clock ∷ clock ∷ echo ∷ []) ≡ Fine
-  pub second : misled_fault 0 (clock ∷ echo ∷ clock ∷ []) ≡ Unfit (Misleads 1)
+  pub none : misled_fault 0 (clock ∷ clock ∷ echo ∷ []) ≡ Ok tt
+  pub second : misled_fault 0 (clock ∷ echo ∷ clock ∷ []) ≡ Err (Misleads 1)
   -- a summary's bytes count behind an entry, and nothing behind a summary does
-  pub behind : misled_fault 0 (echo ∷ summary ∷ []) ≡ Unfit (Misleads 0)
-  pub before : misled_fault 0 (summary ∷ echo ∷ []) ≡ Fine
+  pub behind : misled_fault 0 (echo ∷ summary ∷ []) ≡ Err (Misleads 0)
+  pub before : misled_fault 0 (summary ∷ echo ∷ []) ≡ Ok tt
   -- the first of two; counted from the given index on
-  pub first : misled_fault 3 (echo ∷ echo ∷ clock ∷ []) ≡ Unfit (Misleads 3)
+  pub first : misled_fault 3 (echo ∷ echo ∷ clock ∷ []) ≡ Err (Misleads 3)
 
 pub first-hold : First
 unfolding rle_of ranged_of kind_of is_block_job misled_echoes misled_by misled_fault pair_low block_bytes blocks_bytes

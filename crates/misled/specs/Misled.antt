@@ -8,15 +8,14 @@
 --     misled_echoes    type 5
 --     misled_by        a record, with so many bytes behind its block
 --     misled_fault     15 with the index of the first of the records that misleads
+use Rattle.std.specs.Prelude.{Option, Ok, Err, Some, None}
 use Rattle.std.specs.Prelude.{ℕ, suc, ◌+◌, ◌/◌, ◌%◌, min, Bool, false, cond, not, ◌&&◌, List, [], ◌∷◌, length, ◌==◌, nat_le, nat_lt}
+use Rattle.def_refusals.specs.Answers.{Or}
+use Rattle.def_wire.specs.declared.Kind.{Kind}
 use Rattle.def_refusals.specs.declared.Refusal.TheVariants.{Misleads}
-use Rattle.def_refusals.specs.declared.Checked.{Checked}
-use Rattle.def_refusals.specs.declared.Checked.TheVariants.{Fine, Unfit}
 use Rattle.def_wire.specs.declared.Fields.{Fields}
 use Rattle.def_wire.specs.declared.Ranged.TheVariants.{Chunks, Times}
 use Rattle.def_wire.specs.declared.Kind.TheVariants.{Spans, Clock, Echoes, Statistics}
-use Rattle.def_wire.specs.declared.KindOr.{KindOr}
-use Rattle.def_wire.specs.declared.KindOr.TheVariants.{AKind, NoKind}
 use Rattle.def_wire.specs.Block.{kind_of}
 use Rattle.def_standard.specs.declared.Range.{Range}
 use Rattle.def_standard.specs.Chunks.{covers_of, values_in}
@@ -65,21 +64,21 @@ misled_times f own all =
 unfoldable pub misled_echoes : ℕ → ℕ → Bool
 misled_echoes n behind = n % 4 == 1 && nat_le 12 behind
 
-abbrev pub misled_as : KindOr → Job → ℕ → Bool
-misled_as (AKind (Spans (Chunks a))) j behind = misled_words (job_fields j) (job_words j)
-misled_as (AKind (Spans Times)) j behind =
+abbrev pub misled_as : Option Kind → Job → ℕ → Bool
+misled_as (Some (Spans (Chunks a))) j behind = misled_words (job_fields j) (job_words j)
+misled_as (Some (Spans Times)) j behind =
     misled_times (job_fields j) (length (job_times j)) (length (job_times j) + behind / 4)
-misled_as (AKind Clock) j behind = false
-misled_as (AKind Echoes) j behind = misled_echoes (length j.body / 12) behind
-misled_as (AKind Statistics) j behind = false
-misled_as NoKind j behind = false
+misled_as (Some Clock) j behind = false
+misled_as (Some Echoes) j behind = misled_echoes (length j.body / 12) behind
+misled_as (Some Statistics) j behind = false
+misled_as None j behind = false
 
 -- a bad record asks for no block
 unfoldable pub misled_by : Job → ℕ → Bool
 misled_by j behind = is_block_job j && misled_as (kind_of j.kind) j behind
 
 -- the records from index k on, each with the blocks of those after it behind its own
-unfoldable pub misled_fault : ℕ → List Job → Checked
-misled_fault k [] = Fine
+unfoldable pub misled_fault : ℕ → List Job → Or (Unit {0})
+misled_fault k [] = Ok tt
 misled_fault k (j ∷ js) =
-    cond (misled_by j (length (blocks_bytes Careful js))) (Unfit (Misleads k)) (misled_fault (suc k) js)
+    cond (misled_by j (length (blocks_bytes Careful js))) (Err (Misleads k)) (misled_fault (suc k) js)

@@ -4,7 +4,6 @@
 #![tactic(auto)]
 
 ghost use Rattle.std.specs.Prelude.{◌≡◌, ◌+◌, ◌*◌, ◌%◌, ◌<◌, ◌≤◌, length};
-ghost use Rattle.std.specs.Int.Count.{count_leading_zeros};
 ghost use Rattle.def_standard.specs.Chunks.{covers_of};
 ghost use Rattle.def_jobs.specs.Jobs.{le16, job_fields, job_words};
 ghost use Rattle.jobs.specs.Places.{job_of};
@@ -13,7 +12,7 @@ ghost use Rattle.misled.specs.Misled.{shared_of, goes_on, misled_times, misled_e
 ghost use Rattle.misled.specs.Known.{FirstOne, covered_in, QuietIn, Over};
 
 use def_standard::Range;
-use def_wire::{Fields, Kind, KindOr, Ranged};
+use def_wire::{Fields, Kind, Ranged};
 
 // The fields of a body of types 1 to 3; the kind makes no difference.
 fn fields_of(body: &[u8]) -> Fields
@@ -44,13 +43,6 @@ fn shared_of(f: Fields) -> Range
     }
 }
 
-// The zeros in front of a number's highest one, in 32 bits.
-fn zeros_in_front(v: u32) -> usize
-    ensures { (result ≡ count_leading_zeros 32 v) × (result ≤ 32) }
-{
-    u32::leading_zeros(v) as usize
-}
-
 // The first place of a word, from one on, that has value one; a place past its last where none has.
 fn one_from(w: u16, place: usize) -> usize
     requires { place < covers_of w }
@@ -62,7 +54,8 @@ fn one_from(w: u16, place: usize) -> usize
     if w < 0x8000 {
         return place;
     }
-    place + zeros_in_front((w as u32) << (17 + place))
+    let rest = u32::from(w) << (17 + place);
+    place + rest.leading_zeros() as usize
 }
 
 // How many positions so many words from an index on cover. Low and high bytes are added apart, since 16 bits hold
@@ -73,12 +66,10 @@ fn covered_in(body: &[u8], from: usize, n: usize) -> usize
 {
     let mut low: u16 = 0;
     let mut high: u16 = 0;
-    let mut k: usize = 0;
-    while k < n {
+    for k in 0..n {
         let c = chunk::covers(little_endian::load16(body, from + 2 * k));
         low += c % 256;
         high += c / 256;
-        k += 1;
     }
     high as usize * 256 + low as usize
 }
@@ -99,12 +90,10 @@ fn outside_in(body: &[u8], from: usize, n: usize, start: u16) -> Outside
 {
     let mut p = start;
     let mut ones: u16 = 0;
-    let mut k: usize = 0;
-    while k < n {
+    for k in 0..n {
         let w = little_endian::load16(body, from + 2 * k);
         p = std::num::wrapping_add_u16(p, chunk::covers(w));
         ones = ones | (w & std::num::wrapping_sub_u16(w, 1));
-        k += 1;
     }
     Outside { p, ones }
 }
@@ -214,7 +203,7 @@ pub fn misled(kind: u16, body: &[u8], behind: usize) -> bool
         return false;
     }
     match jobs::kind_of(kind) {
-        KindOr::AKind(k) => match k {
+        Some(k) => match k {
             Kind::Spans(s) => match s {
                 Ranged::Chunks(_) => {
                     let f = fields_of(body);
@@ -229,6 +218,6 @@ pub fn misled(kind: u16, body: &[u8], behind: usize) -> bool
             Kind::Echoes => misled_echoes(body.len() / 12, behind),
             Kind::Statistics => false,
         },
-        KindOr::NoKind => false,
+        None => false,
     }
 }

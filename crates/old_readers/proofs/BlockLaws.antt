@@ -1,16 +1,16 @@
 -- What 15 comes to for the block of any record, whatever stands behind it. Assumes nothing.
+use Rattle.std.specs.Prelude.{Option, Some, None}
 use Prim.Native.Nat.{ℕ, ◌≤◌}
 use mathlib.Core.Path.{◌≡◌}
 use mathlib.Core.Bool.{true}
 use mathlib.Core.List.{List, ◌++◌}
 use native.Mathlib.Omega.{arith}
 use lib.ListN.{length, length-append}
+use Rattle.def_wire.specs.declared.Kind.{Kind}
 use Rattle.laws.proofs.Tests.{true≢false}
 use Rattle.def_wire.specs.declared.Reading.TheVariants.{Standard, Crate}
 use Rattle.def_wire.specs.declared.Ranged.TheVariants.{Chunks, Times}
 use Rattle.def_wire.specs.declared.Kind.TheVariants.{Spans, Clock, Echoes, Statistics}
-use Rattle.def_wire.specs.declared.KindOr.{KindOr}
-use Rattle.def_wire.specs.declared.KindOr.TheVariants.{AKind, NoKind}
 use Rattle.def_wire.specs.Block.{kind_of}
 use Rattle.def_jobs.specs.declared.Layout.TheVariants.{Careful}
 use Rattle.def_jobs.specs.Shown.{record_of}
@@ -23,18 +23,18 @@ use Rattle.old_readers.proofs.ChunksLaws.{chunks-mislead}
 use Rattle.old_readers.proofs.TimesLaws.{times-mislead}
 use Rattle.old_readers.proofs.OtherLaws.{clock-misleads-never, echoes-mislead, sums-mislead-never}
 
-by_kind : (k : KindOr) (j : Job) → is_body k j ≡ true → Body j → (rest : List ℕ)
+by_kind : (k : Option Kind) (j : Job) → is_body k j ≡ true → Body j → (rest : List ℕ)
     → length (bytes_as k Careful j ++ rest) ≤ max_bytes
     → differs (record_of Crate (bytes_as k Careful j ++ rest)) (record_of Standard (bytes_as k Careful j))
     ≡ misled_as k j (length rest)
-by_kind (AKind (Spans (Chunks a))) j g b rest h =
-    let v = bytes_as (AKind (Spans (Chunks a))) Careful j in
+by_kind (Some (Spans (Chunks a))) j g b rest h =
+    let v = bytes_as (Some (Spans (Chunks a))) Careful j in
     chunks-mislead a j g b rest (omega (arith, length-append v rest, h))
-by_kind (AKind (Spans Times)) j g b rest h = times-mislead j g b rest h
-by_kind (AKind Clock) j g b rest h = clock-misleads-never j b rest
-by_kind (AKind Echoes) j g b rest h = echoes-mislead j g b rest h
-by_kind (AKind Statistics) j g b rest h = sums-mislead-never j rest _
-by_kind NoKind j g b rest h = true≢false g
+by_kind (Some (Spans Times)) j g b rest h = times-mislead j g b rest h
+by_kind (Some Clock) j g b rest h = clock-misleads-never j b rest
+by_kind (Some Echoes) j g b rest h = echoes-mislead j g b rest h
+by_kind (Some Statistics) j g b rest h = sums-mislead-never j rest _
+by_kind None j g b rest h = true≢false g
 
 pub block-misleads : (j : Job) → is_block_job j ≡ true → Body j → (rest : List ℕ)
     → length (block_bytes Careful j ++ rest) ≤ max_bytes

@@ -4,6 +4,7 @@
 --     crate-same         where the block does not mislead, the crate lists what the standard does
 --     crate-shows        the crate takes the block
 --     chunks-mislead     what is shown differs exactly where `misled_words` says so
+use Rattle.std.specs.Prelude.{Ok, Some}
 use Prim.Native.Nat.{ℕ, zero, suc, ◌*◌, ◌-◌, ◌≤◌, ◌<◌}
 use mathlib.Core.Path.{◌≡◌, refl, ap, ◌∙◌}
 use mathlib.Core.Bool.{true, false, not}
@@ -14,13 +15,10 @@ use lib.Seq.{take-nil, take-append-le}
 use lib.Dec.{eqb}
 use borrow.Author.Tests.{eqb-true, eq-eqb, le-leb, not-false}
 use Rattle.laws.proofs.Tests.{both}
-use Rattle.def_refusals.specs.declared.Checked.TheVariants.{Fine}
-use Rattle.def_refusals.specs.Answers.{shown}
 use Rattle.def_wire.specs.declared.Reading.TheVariants.{Standard, Crate}
 use Rattle.def_wire.specs.declared.Rle.{Rle}
 use Rattle.def_wire.specs.declared.Ranged.TheVariants.{Chunks}
 use Rattle.def_wire.specs.declared.Kind.TheVariants.{Spans}
-use Rattle.def_wire.specs.declared.KindOr.TheVariants.{AKind}
 use Rattle.def_wire.specs.declared.Fields.{Fields}
 use Rattle.def_wire.specs.Bytes.{pair_up, words16}
 use Rattle.def_wire.specs.Block.{fields_at, rle_type, block_length, crate_rule, fitness, check_of, fields_of}
@@ -109,9 +107,9 @@ same-reported a f l m = same-front (rle_type a ∷ row_of f []) l m
 
 -- of a record in the careful layout
 abbrev pub chunks_block : Rle → Job → List ℕ
-chunks_block a j = bytes_as (AKind (Spans (Chunks a))) Careful j
+chunks_block a j = bytes_as (Some (Spans (Chunks a))) Careful j
 
-module _ (a : Rle) (j : Job) (good : is_body (AKind (Spans (Chunks a))) j ≡ true) (body : Body j) (rest : List ℕ)
+module _ (a : Rle) (j : Job) (good : is_body (Some (Spans (Chunks a))) j ≡ true) (body : Body j) (rest : List ℕ)
     (fits : length (chunks_block a j) ≤ max_bytes) where
   abbrev f : Fields
   f = job_fields j
@@ -124,7 +122,7 @@ module _ (a : Rle) (j : Job) (good : is_body (AKind (Spans (Chunks a))) j ≡ tr
   view = chunks_block a j ++ rest
 
   announced : block_length view ≡ length (chunks_block a j)
-  announced = (laid_as (AKind (Spans (Chunks a))) Careful j good body).announces fits
+  announced = (laid_as (Some (Spans (Chunks a))) Careful j good body).announces fits
 
   held : Fits f
   held = job-fits j 2 (words-good a j good).0 body
@@ -132,7 +130,7 @@ module _ (a : Rle) (j : Job) (good : is_body (AKind (Spans (Chunks a))) j ≡ tr
   fields-shown : fields_at view ≡ f
   fields-shown = fields_back (rle_type a) f (words_bytes Careful ws ++ rest) held
 
-  check-fine : check_of Crate (Spans (Chunks a)) view ≡ Fine
+  check-fine : check_of Crate (Spans (Chunks a)) view ≡ Ok tt
   unfolding check_of fitness crate_rule
   check-fine =
       let h : 12 ≤ block_length view = omega (arith, announced) in rw (eq-eqb (rle_type a) _ refl, le-leb _ _ h)
@@ -169,13 +167,13 @@ module _ (a : Rle) (j : Job) (good : is_body (AKind (Spans (Chunks a))) j ≡ tr
   crate-same e =
       same_row_lem (crate_numbers view) (numbers_of (range_of f) ws) (not-false _ (lists-apart ∙ e))
 
-  pub crate-shows : record_of Crate (chunks_block a j ++ rest) ≡ shown (reported a f (crate_numbers view))
+  pub crate-shows : record_of Crate (chunks_block a j ++ rest) ≡ Ok (reported a f (crate_numbers view))
   unfolding record_of fields_of numbers_shown
   crate-shows =
-      rw (kind-rle a, check-fine) (ap (λ (x : Fields). shown (reported a x (crate_numbers view))) fields-shown)
+      rw (kind-rle a, check-fine) (ap (λ (x : Fields). Ok (reported a x (crate_numbers view))) fields-shown)
 
   pub chunks-mislead : differs (record_of Crate (chunks_block a j ++ rest)) (record_of Standard (chunks_block a j))
       ≡ misled_words (job_fields j) (job_words j)
   chunks-mislead =
-      rw (crate-shows, (laid_as (AKind (Spans (Chunks a))) Careful j good body).shows)
+      rw (crate-shows, (laid_as (Some (Spans (Chunks a))) Careful j good body).shows)
       (ap not (same-reported a f (crate_numbers view) (numbers_of (range_of f) ws)) ∙ lists-apart)

@@ -1,6 +1,7 @@
 -- 15 of a carefully laid out packet, by its records. Assumes nothing.
 --     misleads-at       without padding, block k misleads where its record does with the bytes behind its block
 --     careful-fault     15 is what the records say; with padding it never applies
+use Rattle.std.specs.Prelude.{Ok, Err}
 use Prim.Native.Nat.{ℕ, zero, suc, ◌+◌, ◌≤◌, ◌<◌}
 use mathlib.Core.Path.{◌≡◌, refl, ap}
 use mathlib.Core.Bool.{cond}
@@ -10,11 +11,9 @@ use lib.ListN.{length, get_or, drop, length-drop}
 use lib.Seq.{drop-cons, drop-length}
 use lib.Dec.{eqb}
 use borrow.Author.Tests.{eqb-true, eqb-false}
+use Rattle.def_refusals.specs.Answers.{Or}
 use Rattle.laws.proofs.Tests.{both}
 use Rattle.def_refusals.specs.declared.Refusal.{Refusal}
-use Rattle.def_refusals.specs.declared.Answer.TheVariants.{Refused}
-use Rattle.def_refusals.specs.declared.Checked.{Checked}
-use Rattle.def_refusals.specs.declared.Checked.TheVariants.{Fine}
 use Rattle.def_wire.specs.declared.Reading.TheVariants.{Crate}
 use Rattle.def_wire.specs.Packet.{place_of, count_of, locate}
 use Rattle.def_jobs.specs.declared.Layout.TheVariants.{Careful}
@@ -30,7 +29,7 @@ use Rattle.old_readers.proofs.PacketLaws.{crate-stands, crate-view}
 use Rattle.old_readers.proofs.PaddedLaws.{crate-padded}
 
 -- a refused packet misleads nobody
-pub refused-nobody : (s : List ℕ) (x : Refusal) → count_of Crate s ≡ Refused x → (n k : ℕ) → misleading_from s k n ≡ Fine
+pub refused-nobody : (s : List ℕ) (x : Refusal) → count_of Crate s ≡ Err x → (n k : ℕ) → misleading_from s k n ≡ Ok tt
 unfolding misleading_from locate
 refused-nobody s x e zero k = refl
 refused-nobody s x e (suc n) k = rw e (refused-nobody s x e n (suc k))
@@ -62,9 +61,9 @@ module _ (h : Job) (js : List Job) (s : List ℕ) (w : Fit Careful h js s) (bh :
         let l : k < length js = omega arith in
         rw (drop-cons js k cut_job l, misleads-at k l, misleading-at n (suc k) (omega arith))
 
-  pub careful-fault : mislead_fault Careful s (length js) ≡ cond (eqb (asked_padding h) 0) (misled_fault 0 js) Fine
+  pub careful-fault : mislead_fault Careful s (length js) ≡ cond (eqb (asked_padding h) 0) (misled_fault 0 js) (Ok tt)
   careful-fault =
-      both (λ (x : Checked). mislead_fault Careful s (length js) ≡ x) (eqb (asked_padding h) 0)
+      both (λ (x : Or (Unit {0})). mislead_fault Careful s (length js) ≡ x) (eqb (asked_padding h) 0)
       (λ t. misleading-at (eqb-true _ _ t) (length js) 0 (omega arith))
       (λ f. let p : asked_padding h ≡ 0 → ⊥ = eqb-false _ _ f in
       refused-nobody s _ (crate-padded Careful h js s w bh b (omega (arith, p))) (length js) 0)

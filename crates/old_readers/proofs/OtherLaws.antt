@@ -3,6 +3,7 @@
 --     echoes-mislead           a block of type 5 misleads where `misled_echoes` says so
 --     sums-bare                of a block of type 6 the crate shows type and length only, whatever follows
 --     sums-mislead-never       which misleads nobody
+use Rattle.std.specs.Prelude.{Ok, Some}
 use Prim.Native.Nat.{ℕ, zero, suc, ◌+◌, ◌*◌, ◌/◌, ◌%◌, ◌^◌, ◌≤◌, ◌<◌}
 use mathlib.Core.Path.{◌≡◌, refl, sym, ap, ◌∙◌}
 use mathlib.Core.Bool.{true, false, not}
@@ -12,10 +13,9 @@ use lib.ListN.{length, length-append}
 use lib.Dec.{eqb, leb, ltb}
 use borrow.Author.Tests.{le-leb, lt-ltb, le-ltb, eqb-true, leb-true, leb-false}
 use Rattle.laws.proofs.Tests.{either}
-use Rattle.def_refusals.specs.Answers.{Or, shown}
+use Rattle.def_refusals.specs.Answers.{Or}
 use Rattle.def_wire.specs.declared.Reading.TheVariants.{Standard, Crate}
 use Rattle.def_wire.specs.declared.Kind.TheVariants.{Clock, Echoes, Statistics}
-use Rattle.def_wire.specs.declared.KindOr.TheVariants.{AKind}
 use Rattle.def_wire.specs.Bytes.{words32, four, eight}
 use Rattle.def_wire.specs.Block.{clock_type, block_length, rle_of, ranged_of, kind_of, crate_rule, fitness, check_of, time_of}
 use Rattle.def_standard.specs.Standard.{echoes_of}
@@ -38,15 +38,15 @@ use Rattle.old_readers.proofs.Same.{same_self, same-front}
 -- ---- type 4
 
 clock-shows : (x : ℕ) (rest : List ℕ) → x < 2 ^ 64
-    → record_of Crate (head clock_type 0 8 ++ (eight x ++ rest)) ≡ shown (clocked (record { 0 = x }))
+    → record_of Crate (head clock_type 0 8 ++ (eight x ++ rest)) ≡ Ok (clocked (record { 0 = x }))
 unfolding record_of kind_of ranged_of rle_of time_of check_of fitness crate_rule
 clock-shows x rest h =
     let long : 12 ≤ length (head clock_type 0 8 ++ (eight x ++ rest)) = omega arith in
-    rw (le-leb _ _ long) (ap (λ (t : ℕ). shown (clocked (record { 0 = t }))) (be64-eight x rest h))
+    rw (le-leb _ _ long) (ap (λ (t : ℕ). Ok (clocked (record { 0 = t }))) (be64-eight x rest h))
 
 pub clock-misleads-never : (j : Job) → Body j → (rest : List ℕ)
-    → differs (record_of Crate (bytes_as (AKind Clock) Careful j ++ rest))
-    (record_of Standard (bytes_as (AKind Clock) Careful j))
+    → differs (record_of Crate (bytes_as (Some Clock) Careful j ++ rest))
+    (record_of Standard (bytes_as (Some Clock) Careful j))
     ≡ false
 clock-misleads-never j body rest =
     let x = le64 j.body 0 in
@@ -91,7 +91,7 @@ entries_fit (suc (suc (suc (suc n)))) =
 
 module _ (j : Job) where
   abbrev block : List ℕ
-  block = bytes_as (AKind Echoes) Careful j
+  block = bytes_as (Some Echoes) Careful j
 
   abbrev entries : ℕ
   entries = length j.body / 12
@@ -109,17 +109,17 @@ module _ (j : Job) where
       announced : block_length (block ++ rest) ≡ 4 + 12 * entries
       announced =
           length-stands (block ++ rest) 0 block rest
-          ((laid_as (AKind Echoes) Careful j good body).announces (omega (arith, length-append block rest))) refl
+          ((laid_as (Some Echoes) Careful j good body).announces (omega (arith, length-append block rest))) refl
           ∙ length-block
 
       crate-takes : eqb (entries % 4) 1 ≡ true
-          → record_of Crate (block ++ rest) ≡ shown (echoed (echoes_of (low32 j.body ++ words32 rest)))
+          → record_of Crate (block ++ rest) ≡ Ok (echoed (echoes_of (low32 j.body ++ words32 rest)))
       unfolding record_of kind_of ranged_of rle_of entries_shown check_of fitness crate_rule
       crate-takes t =
           let one : entries % 4 ≡ 1 = eqb-true _ _ t in
           let long : 16 ≤ length (block ++ rest) = omega (arith, length-append block rest, length-block) in
           rw (announced, le-leb _ _ long, entries_fit entries, t)
-          (ap (λ (l : List ℕ). shown (echoed (echoes_of l)))
+          (ap (λ (l : List ℕ). Ok (echoed (echoes_of l)))
           (words32-behind (low32 j.body) rest (under-low32 j.body body)))
 
       crate-refuses : eqb (entries % 4) 1 ≡ false
@@ -130,9 +130,9 @@ module _ (j : Job) where
           (either (leb 16 (length (block ++ rest))) (λ long. rw long) (λ short. rw short))
 
 pub echoes-mislead : (j : Job) → eqb (length j.body % 12) 0 ≡ true → Body j → (rest : List ℕ)
-    → length (bytes_as (AKind Echoes) Careful j ++ rest) ≤ max_bytes
-    → differs (record_of Crate (bytes_as (AKind Echoes) Careful j ++ rest))
-    (record_of Standard (bytes_as (AKind Echoes) Careful j))
+    → length (bytes_as (Some Echoes) Careful j ++ rest) ≤ max_bytes
+    → differs (record_of Crate (bytes_as (Some Echoes) Careful j ++ rest))
+    (record_of Standard (bytes_as (Some Echoes) Careful j))
     ≡ misled_echoes (length j.body / 12) (length rest)
 unfolding misled_echoes numbers_row
 echoes-mislead j good body rest small =
@@ -140,17 +140,17 @@ echoes-mislead j good body rest small =
     let m : length own % 3 ≡ 0 = omega (arith, length-low32 j.body, length-body j good body) in
     either (eqb (entries j % 4) 1)
     (λ t.
-    rw (t, crate-takes j good body rest small t, (laid_as (AKind Echoes) Careful j good body).shows)
+    rw (t, crate-takes j good body rest small t, (laid_as (Some Echoes) Careful j good body).shows)
     (ap not (same_entries own (words32 rest) m) ∙ three-words rest))
     (λ f. rw f (crate-refuses j good body rest small f))
 
 -- ---- type 6
 
 pub sums-bare : (j : Job) (rest : List ℕ)
-    → record_of Crate (bytes_as (AKind Statistics) Careful j ++ rest) ≡ shown bare
+    → record_of Crate (bytes_as (Some Statistics) Careful j ++ rest) ≡ Ok bare
 unfolding record_of kind_of ranged_of rle_of
 sums-bare j rest = refl
 
 pub sums-mislead-never : (j : Job) (rest : List ℕ) (standard : Or Record)
-    → differs (record_of Crate (bytes_as (AKind Statistics) Careful j ++ rest)) standard ≡ false
+    → differs (record_of Crate (bytes_as (Some Statistics) Careful j ++ rest)) standard ≡ false
 sums-mislead-never j rest standard = rw (sums-bare j rest)

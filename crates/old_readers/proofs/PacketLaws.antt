@@ -2,14 +2,13 @@
 --     crate-count      without padding it has a block for each record but the first
 --     crate-view       and block k's view is the block and all the blocks behind it
 --     block-some       no block is empty
+use Rattle.std.specs.Prelude.{Ok}
 use Prim.Native.Nat.{ℕ, zero, suc, ◌+◌, ◌-◌, ◌≤◌, ◌<◌}
 use mathlib.Core.Path.{◌≡◌, sym, ap, ◌∙◌}
 use mathlib.Core.List.{List, [], ◌∷◌, ◌++◌, append-nil}
 use native.Mathlib.Omega.{arith}
 use lib.ListN.{length, get_or, drop, length-map, length-drop}
 use lib.Seq.{take_all}
-use Rattle.def_refusals.specs.declared.Answer.TheVariants.{Done}
-use Rattle.def_refusals.specs.Answers.{shown}
 use Rattle.def_wire.specs.declared.Reading.TheVariants.{Crate}
 use Rattle.def_wire.specs.Packet.{place_of, header_of, count_of, view_of}
 use Rattle.def_jobs.specs.declared.Layout.TheVariants.{Careful}
@@ -54,7 +53,7 @@ module _ (h : Job) (js : List Job) (s : List ℕ) (w : Fit Careful h js s) (bh :
         ap length (packet-around Careful h js s w bh b) ∙ length-around (asked_padding h) (sender_of h) (joined bs)
         ∙ omega (arith, z)
 
-    crate-header : header_of Crate s ≡ Done (length s)
+    crate-header : header_of Crate s ≡ Ok (length s)
     crate-header =
         rw (packet-around Careful h js s w bh b)
         (header-around Crate (asked_padding h) (sender_of h) (joined bs) (header-padding h w.header)
@@ -65,10 +64,10 @@ module _ (h : Job) (js : List Job) (s : List ℕ) (w : Fit Careful h js s) (bh :
     behind =
         stands Careful h js s w bh b ∙ ap (λ (n : ℕ). joined bs ++ padding_bytes n) z
 
-    pub crate-count : count_of Crate s ≡ Done (length js)
+    pub crate-count : count_of Crate s ≡ Ok (length js)
     crate-count =
         count-blocks Crate s [] bs (length s) crate-header ends (announced Careful h js s w bh b) behind
-        ∙ ap Done (length-map js (block_bytes Careful))
+        ∙ ap Ok (length-map js (block_bytes Careful))
 
     module _ (k : ℕ) (l : k < length js) where
       -- block k, and behind it the others
@@ -80,9 +79,9 @@ module _ (h : Job) (js : List Job) (s : List ℕ) (w : Fit Careful h js s) (bh :
           ∙ rw (append-nil (joined (drop (suc k) bs)), behind-blocks js (suc k), block_at Careful js k)
 
       pub crate-view : view_of Crate s k
-          ≡ shown (block_bytes Careful (get_or js k cut_job) ++ blocks_bytes Careful (drop (suc k) js))
+          ≡ Ok (block_bytes Careful (get_or js k cut_job) ++ blocks_bytes Careful (drop (suc k) js))
       crate-view =
           rw (locate-block Crate s (length js) k crate-count l)
-          (ap shown
+          (ap Ok
           (take_all (length s - place_of s k) (drop (place_of s k) s) (omega (arith, length-drop (place_of s k) s))
           ∙ crate-stands))

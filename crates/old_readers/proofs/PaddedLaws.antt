@@ -1,6 +1,7 @@
 -- The crate reading of a written packet with padding, or without blocks: it is refused. Assumes nothing.
 --     crate-padded     6 at the padding's last word, which the crate takes for a block's header
 --     crate-empty      1: 8 bytes are too few
+use Rattle.std.specs.Prelude.{Ok, Err}
 use Prim.Native.Nat.{ℕ, zero, suc, ◌+◌, ◌*◌, ◌-◌, ◌/◌, ◌%◌, ◌≤◌, ◌<◌}
 use mathlib.Core.Path.{◌≡◌, refl, sym, ap, ◌∙◌}
 use mathlib.Core.List.{List, [], ◌∷◌, ◌++◌}
@@ -10,7 +11,6 @@ use lib.ListN.{length, drop, replicate}
 use lib.Seq.{drop-drop, drop-append_seam}
 use borrow.Author.Tests.{lt-ltb, lt-leb}
 use Rattle.def_refusals.specs.declared.Refusal.TheVariants.{TooShort, BlockTooLong}
-use Rattle.def_refusals.specs.declared.Answer.TheVariants.{Done, Refused}
 use Rattle.def_wire.specs.declared.Reading.TheVariants.{Crate}
 use Rattle.def_wire.specs.Packet.{length_at, header_of, walk_from, count_of}
 use Rattle.def_jobs.specs.declared.Layout.{Layout}
@@ -30,7 +30,7 @@ length-here s at =
 -- m + 1 words, zeros but for the last byte
 module _ (s : List ℕ) (stop last : ℕ) (some : 0 < last) where
   walk-padding : (m at n f : ℕ) → drop at s ≡ replicate (4 * m + 3) 0 ++ (last ∷ []) → stop ≡ at + 4 * suc m
-      → m < f → walk_from s stop f at n ≡ Refused (BlockTooLong ((last + 1) * 4) 4)
+      → m < f → walk_from s stop f at n ≡ Err (BlockTooLong ((last + 1) * 4) 4)
   unfolding walk_from
   walk-padding m at n zero e t h = absurd (omega arith)
   walk-padding zero at n (suc f) e t h =
@@ -66,7 +66,7 @@ module _ (layout : Layout) (h : Job) (js : List Job) (s : List ℕ) (w : Fit lay
       let j : suc n - 1 ≡ n = omega arith in rw (j, ← i)
 
   module _ (some : 0 < asked_padding h) where
-    pub crate-padded : count_of Crate s ≡ Refused (BlockTooLong ((asked_padding h + 1) * 4) 4)
+    pub crate-padded : count_of Crate s ≡ Err (BlockTooLong ((asked_padding h + 1) * 4) 4)
     unfolding count_of
     crate-padded =
         let n = asked_padding h in
@@ -75,7 +75,7 @@ module _ (layout : Layout) (h : Job) (js : List Job) (s : List ℕ) (w : Fit lay
         let a = announced layout h js s w bh b in
         let v = stands layout h js s w bh b in
         let l : 12 ≤ length s = omega (arith, sized, p) in
-        let c : header_of Crate s ≡ Done (length s) =
+        let c : header_of Crate s ≡ Ok (length s) =
         rw e
         (header-around Crate n (sender_of h) (joined bs) p (whole-blocks layout js w.blocks b)
         (small-around layout h js s w bh b) (rw e at l)) in
@@ -90,7 +90,7 @@ module _ (layout : Layout) (h : Job) (js : List Job) (s : List ℕ) (w : Fit lay
         (omega (arith, sized, p)) (omega (arith, sized, p)))
 
 pub crate-empty : (layout : Layout) (h : Job) (s : List ℕ) (w : Fit layout h [] s) → Body h → asked_padding h ≡ 0
-    → count_of Crate s ≡ Refused (TooShort 12 8)
+    → count_of Crate s ≡ Err (TooShort 12 8)
 unfolding count_of header_of
 crate-empty layout h s w bh z =
     let l : length s ≡ 8 = omega (arith, sized layout h [] s w bh tt, z) in rw l

@@ -4,6 +4,7 @@
 --     same-front               what stands in front of two rows does not matter
 --     same_received            records of type 3 with the same fields are the same where their pairs are
 --     same-record              records that are the same are equal
+use Rattle.std.specs.Prelude.{Option, Some, None}
 use Prim.Native.Nat.{ℕ}
 use mathlib.Core.Path.{◌≡◌, refl, sym, ap, ap₂, ◌∙◌}
 use mathlib.Core.Bool.{Bool, true, false, cond}
@@ -11,17 +12,13 @@ use mathlib.Core.List.{List, [], ◌∷◌, ◌++◌}
 use lib.ListN.{get_or, drop}
 use lib.Dec.{eqb}
 use borrow.Author.Tests.{eq-eqb, eqb-true}
+use Rattle.def_wire.specs.declared.Spread.{Spread}
+use Rattle.def_wire.specs.declared.Kind.{Kind}
 use Rattle.laws.proofs.Tests.{and-true, true≢false}
 use Rattle.def_wire.specs.declared.Fields.{Fields}
 use Rattle.def_wire.specs.declared.Ranged.TheVariants.{Chunks, Times}
 use Rattle.def_wire.specs.declared.Kind.TheVariants.{Spans, Clock, Echoes, Statistics}
 use Rattle.def_wire.specs.declared.Rle.TheVariants.{Loss, Duplicate}
-use Rattle.def_wire.specs.declared.KindOr.{KindOr}
-use Rattle.def_wire.specs.declared.KindOr.TheVariants.{AKind, NoKind}
-use Rattle.def_wire.specs.declared.CountOr.{CountOr}
-use Rattle.def_wire.specs.declared.CountOr.TheVariants.{Counted, Uncounted}
-use Rattle.def_wire.specs.declared.JitterOr.{JitterOr}
-use Rattle.def_wire.specs.declared.JitterOr.TheVariants.{Jitter, NoJitter}
 use Rattle.def_wire.specs.declared.HopsOr.{HopsOr}
 use Rattle.def_wire.specs.declared.HopsOr.TheVariants.{NoHops, Ttl, HopLimit, Unknown}
 use Rattle.def_wire.specs.declared.Summary.{Summary}
@@ -73,13 +70,13 @@ fields_in row = record { ssrc = get_or row 0 0; begin = get_or row 1 0; end = ge
 abbrev is_in : List ℕ → Bool
 is_in row = eqb (get_or row 0 0) 1
 
-abbrev count_in : List ℕ → CountOr
+abbrev count_in : List ℕ → Option ℕ
 count_in row = count_if (is_in row) (get_or row 1 0)
 
 abbrev past_count : List ℕ → List ℕ
 past_count row = cond (is_in row) (drop 2 row) (drop 1 row)
 
-abbrev jitter_in : List ℕ → JitterOr
+abbrev jitter_in : List ℕ → Option Spread
 jitter_in row = jitter_if (is_in row) (spread (get_or row 1 0) (get_or row 2 0) (get_or row 3 0) (get_or row 4 0))
 
 abbrev past_jitter : List ℕ → List ℕ
@@ -99,13 +96,13 @@ summary_in row = record {
   hops = hops_in (past_jitter (past_count (past_count (drop 3 row))));
 }
 
-abbrev from_row : KindOr → List ℕ → Record
-from_row (AKind (Spans (Chunks a))) row = reported a (fields_in row) (drop 4 row)
-from_row (AKind (Spans Times)) row = received (fields_in row) (receipts_in (drop 4 row))
-from_row (AKind Clock) row = clocked (record { 0 = get_or row 0 0 })
-from_row (AKind Echoes) row = echoed (echoes_of row)
-from_row (AKind Statistics) row = summed (summary_in row)
-from_row NoKind row = bare
+abbrev from_row : Option Kind → List ℕ → Record
+from_row (Some (Spans (Chunks a))) row = reported a (fields_in row) (drop 4 row)
+from_row (Some (Spans Times)) row = received (fields_in row) (receipts_in (drop 4 row))
+from_row (Some Clock) row = clocked (record { 0 = get_or row 0 0 })
+from_row (Some Echoes) row = echoed (echoes_of row)
+from_row (Some Statistics) row = summed (summary_in row)
+from_row None row = bare
 
 -- the row's first number is the type
 abbrev record_in : List ℕ → Record
@@ -121,21 +118,21 @@ echoes-back [] = refl
 echoes-back (x ∷ l) = ap (λ (m : List Echo). x ∷ m) (echoes-back l)
 
 module _ (rest : List ℕ) where
-  count-back : (x : CountOr) → count_in (count_row x ++ rest) ≡ x
-  count-back (Counted n) = refl
-  count-back Uncounted = refl
+  count-back : (x : Option ℕ) → count_in (count_row x ++ rest) ≡ x
+  count-back (Some n) = refl
+  count-back None = refl
 
-  past-count : (x : CountOr) → past_count (count_row x ++ rest) ≡ rest
-  past-count (Counted n) = refl
-  past-count Uncounted = refl
+  past-count : (x : Option ℕ) → past_count (count_row x ++ rest) ≡ rest
+  past-count (Some n) = refl
+  past-count None = refl
 
-  jitter-back : (x : JitterOr) → jitter_in (jitter_row x ++ rest) ≡ x
-  jitter-back (Jitter y) = refl
-  jitter-back NoJitter = refl
+  jitter-back : (x : Option Spread) → jitter_in (jitter_row x ++ rest) ≡ x
+  jitter-back (Some y) = refl
+  jitter-back None = refl
 
-  past-jitter : (x : JitterOr) → past_jitter (jitter_row x ++ rest) ≡ rest
-  past-jitter (Jitter y) = refl
-  past-jitter NoJitter = refl
+  past-jitter : (x : Option Spread) → past_jitter (jitter_row x ++ rest) ≡ rest
+  past-jitter (Some y) = refl
+  past-jitter None = refl
 
 hops-back : (x : HopsOr) → hops_in (hops_row x) ≡ x
 hops-back NoHops = refl

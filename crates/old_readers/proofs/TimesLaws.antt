@@ -2,6 +2,7 @@
 -- pairs, so they show the same where they list as many; where it is off it they show the same only where neither lists
 -- any. Assumes nothing.
 --     times-mislead      the block misleads where `misled_times` says so
+use Rattle.std.specs.Prelude.{Ok, Some}
 use Prim.Native.Nat.{ℕ, zero, suc, ◌+◌, ◌/◌, ◌%◌, ◌^◌, ◌≤◌, ◌<◌, min}
 use mathlib.Core.Path.{◌≡◌, refl, sym, ap, ap₂, ◌∙◌}
 use mathlib.Core.Bool.{true, false, not}
@@ -12,12 +13,10 @@ use lib.ListN.{length, drop, length-append}
 use lib.Dec.{eqb, eqb-zero-suc, eqb-suc-zero, eqb-suc-suc}
 use borrow.Author.Tests.{le-ltb, eq-eqb, ne_eqb, eqb-false}
 use Rattle.laws.proofs.Tests.{either}
-use Rattle.def_refusals.specs.Answers.{shown}
 use Rattle.def_wire.specs.declared.Reading.TheVariants.{Standard, Crate}
 use Rattle.def_wire.specs.declared.Fields.{Fields}
 use Rattle.def_wire.specs.declared.Ranged.TheVariants.{Times}
 use Rattle.def_wire.specs.declared.Kind.TheVariants.{Spans}
-use Rattle.def_wire.specs.declared.KindOr.TheVariants.{AKind}
 use Rattle.def_wire.specs.Bytes.{words32, four}
 use Rattle.def_wire.specs.Block.{receipt_type, rle_of, ranged_of, kind_of, crate_rule, fitness, check_of, fields_of}
 use Rattle.def_standard.specs.declared.Range.{Range}
@@ -98,7 +97,7 @@ same-apart g h (suc m) (suc n) (t ∷ ts) us apart pos =
 
 module _ (j : Job) where
   abbrev block : List ℕ
-  block = bytes_as (AKind (Spans Times)) Careful j
+  block = bytes_as (Some (Spans Times)) Careful j
 
   -- the record with the first n of some times, counted by a range
   abbrev firsts : Range → ℕ → List ℕ → Record
@@ -112,14 +111,14 @@ module _ (j : Job) where
   in_standard = inside_count (range_of (job_fields j))
 
   module _ (good : has_fields j 4 ≡ true) (body : Body j) where
-    standard-shows : record_of Standard block ≡ shown (firsts (range_of (job_fields j)) in_standard (job_times j))
+    standard-shows : record_of Standard block ≡ Ok (firsts (range_of (job_fields j)) in_standard (job_times j))
     standard-shows =
-        (laid_as (AKind (Spans Times)) Careful j good body).shows
-        ∙ ap (λ (l : List Receipt). shown (received (job_fields j) l))
+        (laid_as (Some (Spans Times)) Careful j good body).shows
+        ∙ ap (λ (l : List Receipt). Ok (received (job_fields j) l))
         (rw sub-zero at (pairs-standard (range_of (job_fields j)) 0 (job_times j)))
 
     crate-shows : (rest : List ℕ) → length (block ++ rest) ≤ max_bytes
-        → record_of Crate (block ++ rest) ≡ shown (firsts (from_begin (job_fields j)) in_crate (job_times j ++ words32 rest))
+        → record_of Crate (block ++ rest) ≡ Ok (firsts (from_begin (job_fields j)) in_crate (job_times j ++ words32 rest))
     unfolding record_of kind_of ranged_of rle_of fields_of pairs_shown check_of fitness crate_rule
     crate-shows rest small =
         let own = job_times j in
@@ -134,9 +133,9 @@ module _ (j : Job) where
           length-bytes_of four 4 (λ x. refl) own,
         ) in
         rw (le-ltb _ _ long)
-        (ap₂ (λ (f : Fields) (ts : List ℕ). shown (received f (crate_pairs_from f 0 ts)))
+        (ap₂ (λ (f : Fields) (ts : List ℕ). Ok (received f (crate_pairs_from f 0 ts)))
         (fields_back receipt_type (job_fields j) (bytes_of four own ++ rest) fits) (words32-behind own rest under)
-        ∙ ap (λ (l : List Receipt). shown (received (job_fields j) l))
+        ∙ ap (λ (l : List Receipt). Ok (received (job_fields j) l))
         (rw sub-zero at
         (pairs-crate (job_fields j) fits.begin fits.end 0 (own ++ words32 rest) few (omega arith))))
 
@@ -167,9 +166,9 @@ stretches-differ f fits ts us =
     (first_pos f.begin f.end f.thinning fits.begin fits.end))))
 
 pub times-mislead : (j : Job) → has_fields j 4 ≡ true → Body j → (rest : List ℕ)
-    → length (bytes_as (AKind (Spans Times)) Careful j ++ rest) ≤ max_bytes
-    → differs (record_of Crate (bytes_as (AKind (Spans Times)) Careful j ++ rest))
-    (record_of Standard (bytes_as (AKind (Spans Times)) Careful j))
+    → length (bytes_as (Some (Spans Times)) Careful j ++ rest) ≤ max_bytes
+    → differs (record_of Crate (bytes_as (Some (Spans Times)) Careful j ++ rest))
+    (record_of Standard (bytes_as (Some (Spans Times)) Careful j))
     ≡ misled_times (job_fields j) (length (job_times j)) (length (job_times j) + length rest / 4)
 times-mislead j good body rest small =
     let f = job_fields j in

@@ -27,9 +27,9 @@ pub fn rest_of(w: u16, place: usize) -> u16
     ensures { result ≡ rest_of w place }
 {
     if w < 0x8000 {
-        return w - utils::lesser(place, chunk::run_length(w) as usize) as u16;
+        return w - place.min(chunk::run_length(w) as usize) as u16;
     }
-    0x8000 + (((w as u32) << utils::lesser(place, 15)) & 0x7fff) as u16
+    0x8000 + (((w as u32) << place.min(15)) & 0x7fff) as u16
 }
 
 // The place of a number's highest one, counted from below.
@@ -68,16 +68,15 @@ pub fn store_run(out: &mut [u16], at: usize, count: usize, first: u16, step: u16
     ensures wrote { Wrote out.old at (progression step first count) out.new result.n }
     ensures next_value { result.next ≡ past step first count }
 {
-    let mut left = count;
-    let mut n = at;
     let mut x = first;
-    while left != 0 {
+    for n in at..at + count {
         out[n] = x;
-        x = std::num::wrapping_add_u16(x, step);
-        n += 1;
-        left -= 1;
+        x = x.wrapping_add(step);
     }
-    Stored { n, next: x }
+    Stored {
+        n: at + count,
+        next: x,
+    }
 }
 
 // Stores the numbers of a vector's ones, up to a place: one turn for each, from the highest bit down.
@@ -106,11 +105,11 @@ pub fn store_word(out: &mut [u16], at: usize, w: u16, room: usize, first: u16, s
         return at;
     }
     if w < 0x8000 {
-        let ones = utils::lesser(room, chunk::run_length(w) as usize);
+        let ones = room.min(chunk::run_length(w) as usize);
         let r = store_run(out, at, ones, first, step);
         return r.n;
     }
-    store_vector(out, at, w, utils::lesser(room, 15), first, step)
+    store_vector(out, at, w, room.min(15), first, step)
 }
 
 // The place of a vector's first one that fails; 15 where none does.

@@ -1,18 +1,15 @@
 -- What a reading is asked, and each way in which a call that lists pairs ends.
+use Rattle.std.specs.Prelude.{Ok, Err}
 use Rattle.std.proofs.Common.{◌≡◌, ℕ, ◌-◌, ◌%◌, ◌^◌, ◌<◌, ◌≤◌, min, List, map, length, drop, sym, refl, ap, ◌∙◌, one-mul, arith}
 use lib.ListN.{length-map}
 use Rattle.def_refusals.specs.declared.Refusal.{Refusal}
 use Rattle.def_refusals.specs.declared.Refusal.TheVariants.{NoRoom}
-use Rattle.def_refusals.specs.declared.Answer.{Answer}
-use Rattle.def_refusals.specs.declared.Answer.TheVariants.{Done, Refused}
-use Rattle.def_refusals.specs.declared.Checked.TheVariants.{Fine, Unfit}
-use Rattle.def_refusals.specs.Answers.{Or, shown, refused, each}
+use Rattle.def_refusals.specs.Answers.{Or, each}
 use Rattle.laws.proofs.Answering.{answer-listed, answer-full, answer-refused, filled-listed, filled-full}
 use Rattle.laws.proofs.Answering.{filled-refused}
 use Rattle.def_wire.specs.declared.Reading.{Reading}
 use Rattle.def_wire.specs.declared.Reading.TheVariants.{Standard, Crate}
 use Rattle.def_wire.specs.declared.Fields.{Fields}
-use Rattle.def_wire.specs.declared.Located.TheVariants.{At, Missing}
 use Rattle.def_wire.specs.Packet.{locate, part}
 use Rattle.def_wire.specs.Bytes.{words32}
 use Rattle.def_wire.specs.declared.Ranged.TheVariants.{Times}
@@ -46,24 +43,24 @@ thinning-by Crate f = refl
 
 module _ (r : Reading) (v : List ℕ) where
   -- the list that is shown, from the first number, the step and the count that were found
-  pub pairs-fine : check_of r (Spans Times) v ≡ Fine → (fields_at v).begin < 65536 → (fields_at v).end < 65536
+  pub pairs-fine : check_of r (Spans Times) v ≡ Ok tt → (fields_at v).begin < 65536 → (fields_at v).end < 65536
       → length (words32 (drop 12 v)) ≤ never
       → (first step n : ℕ) → first ≡ number_of (range_by r (fields_at v)) 0 → step ≡ step_of (fields_at v).thinning
       → n ≡ min (listable r (fields_at v)) (length (words32 (drop 12 v)))
-      → pairs_shown r v ≡ shown (stepped step first n (words32 (drop 12 v)))
+      → pairs_shown r v ≡ Ok (stepped step first n (words32 (drop 12 v)))
   unfolding pairs_shown
   pairs-fine c b e k first step n f s nn =
       let g = range_by r (fields_at v) in
       let ts = words32 (drop 12 v) in
       rw c
-      (ap shown
+      (ap Ok
       (pairs-read r v b e k
       ∙ ap (λ (m : ℕ). first_pairs g 0 m ts) (let z : listable r (fields_at v) - 0 ≡ listable r (fields_at v) = omega
       arith in z)
       ∙ first-all g 0 (listable r (fields_at v)) ts ∙ first-stepped g 0 (min (listable r (fields_at v)) (length ts)) ts
       ∙ (rw (f, thinning-by r (fields_at v), s, nn))))
 
-  pub pairs-unfit : (x : Refusal) → check_of r (Spans Times) v ≡ Unfit x → pairs_shown r v ≡ refused x
+  pub pairs-unfit : (x : Refusal) → check_of r (Spans Times) v ≡ Err x → pairs_shown r v ≡ Err x
   unfolding pairs_shown
   pairs-unfit x e = rw e
 
@@ -82,17 +79,17 @@ pub listable-crate : (r : Reading) (f : Fields) → r ≡ Crate → listable Cra
 listable-crate r f e = rw e
 
 module _ (r : Reading) (s : List ℕ) (k : ℕ) where
-  pub pairs-asked : (at n : ℕ) → locate r s k ≡ At at n → pairs_shown r (part s at n) ≡ pairs_asked r s k
+  pub pairs-asked : (at n : ℕ) → locate r s k ≡ Ok (at, n) → pairs_shown r (part s at n) ≡ pairs_asked r s k
   unfolding pairs_asked
   pairs-asked at n e = rw e
 
-  pub pairs-missing : (x : Refusal) → locate r s k ≡ Missing x → pairs_asked r s k ≡ refused x
+  pub pairs-missing : (x : Refusal) → locate r s k ≡ Err x → pairs_asked r s k ≡ Err x
   unfolding pairs_asked
   pairs-missing x e = rw e
 
 -- ---- the ways in which a listing call ends
 -- a listing call's contract, of what is asked said otherwise
-pub pairs-as : {whole asked : Or (List Receipt)} {ns ts ns' ts' : List ℕ} {a : Answer} → whole ≡ asked
+pub pairs-as : {whole asked : Or (List Receipt)} {ns ts ns' ts' : List ℕ} {a : Or ℕ} → whole ≡ asked
     → ListedPairs whole ns ts a ns' ts' → ListedPairs asked ns ts a ns' ts'
 pairs-as e l = rw (← e) l
 
@@ -100,9 +97,9 @@ module _ (whole : Or (List Receipt)) (ns ts : List ℕ) where
   abbrev room : ℕ
   room = min (length ns) (length ts)
 
-  pub pairs-listed : (l : List Receipt) (n : ℕ) (ns' ts' : List ℕ) → whole ≡ shown l → n ≡ length l → n ≤ room
+  pub pairs-listed : (l : List Receipt) (n : ℕ) (ns' ts' : List ℕ) → whole ≡ Ok l → n ≡ length l → n ≤ room
       → Stored l ns ts ns' ts'
-      → ListedPairs whole ns ts (Done n) ns' ts'
+      → ListedPairs whole ns ts (Ok n) ns' ts'
   pairs-listed l n ns' ts' w e h s =
       let k : length l ≤ room = omega arith in
       record {
@@ -113,8 +110,8 @@ module _ (whole : Or (List Receipt)) (ns ts : List ℕ) where
             (rw (length-map l time_in) k) s.times;
       }
 
-  pub pairs-full : (l : List Receipt) (n m : ℕ) → whole ≡ shown l → n ≡ length l → m ≡ room → m < n
-      → ListedPairs whole ns ts (Refused (NoRoom n m)) ns ts
+  pub pairs-full : (l : List Receipt) (n m : ℕ) → whole ≡ Ok l → n ≡ length l → m ≡ room → m < n
+      → ListedPairs whole ns ts (Err (NoRoom n m)) ns ts
   pairs-full l n m w e k h =
       let short : room < length l = omega arith in
       record {
@@ -125,7 +122,7 @@ module _ (whole : Or (List Receipt)) (ns ts : List ℕ) where
             (rw (length-map l time_in) short);
       }
 
-  pub pairs-refused : (x : Refusal) → whole ≡ refused x → ListedPairs whole ns ts (Refused x) ns ts
+  pub pairs-refused : (x : Refusal) → whole ≡ Err x → ListedPairs whole ns ts (Err x) ns ts
   pairs-refused x w =
       record {
         answer = answer-refused whole room x w;

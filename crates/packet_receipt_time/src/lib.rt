@@ -12,8 +12,8 @@ ghost use Rattle.def_questions.specs.Packets.{pairs_asked};
 ghost use Rattle.def_wire.specs.Block.{fields_at};
 ghost use Rattle.packet_receipt_time.specs.Pairs.{range_by, listable, stepped, Stored};
 
-use def_refusals::{Answer, Checked, Refusal};
-use def_wire::{Fields, Located, Reading, ReceiptTime};
+use def_refusals::Refusal;
+use def_wire::{Fields, Reading, ReceiptTime};
 
 // The receipt time at a place.
 fn time_at(v: &[u8], at: usize) -> ReceiptTime
@@ -60,48 +60,44 @@ fn store(v: &[u8], first: u16, step: u16, n: usize, numbers: &mut [u16], times: 
     ensures { Stored (stepped step first n (words32 (drop 12 v.now))) numbers.old
         times.old numbers.new times.new }
 {
-    let mut i: usize = 0;
-    let mut at: usize = 12;
     let mut x = first;
-    while i < n {
-        let t = time_at(v, at);
+    for i in 0..n {
+        let t = time_at(v, 12 + 4 * i);
         numbers[i] = x;
         times[i] = t.0;
         x = std::num::wrapping_add_u16(x, step);
-        i += 1;
-        at += 4;
     }
 }
 
 // The pairs of a block's view: 10, 7, 11.
-pub fn pairs(r: Reading, v: &[u8], numbers: &mut [u16], times: &mut [u32]) -> Answer
+pub fn pairs(r: Reading, v: &[u8], numbers: &mut [u16], times: &mut [u32]) -> Result<usize, Refusal>
     ensures { ListedPairs (pairs_shown r v.now) numbers.old times.old result
         numbers.new times.new }
 {
-    match block::check_times(r, v) {
-        Checked::Fine => {
-            let f = block::fields_at(v);
-            let n = utils::lesser(listable_of(r, f), times_count(v));
-            let room = utils::lesser(numbers.len(), times.len());
-            if room < n {
-                return Answer::Refused(Refusal::NoRoom(n, room));
-            }
-            let first = first_of(r, f);
-            let step = range::doubled(1, f.thinning);
-            store(v, first, step, n, numbers, times);
-            Answer::Done(n)
-        }
-        Checked::Unfit(x) => Answer::Refused(x),
+    block::check_times(r, v)?;
+    let f = block::fields_at(v);
+    let n = utils::lesser(listable_of(r, f), times_count(v));
+    let room = utils::lesser(numbers.len(), times.len());
+    if room < n {
+        return Err(Refusal::NoRoom(n, room));
     }
+    let first = first_of(r, f);
+    let step = range::doubled(1, f.thinning);
+    store(v, first, step, n, numbers, times);
+    Ok(n)
 }
 
 // The pairs of block k of a packet: 1 to 6, 9, 10, 7, 11.
-pub fn pairs_in(r: Reading, s: &[u8], k: usize, numbers: &mut [u16], times: &mut [u32]) -> Answer
+pub fn pairs_in(
+    r: Reading,
+    s: &[u8],
+    k: usize,
+    numbers: &mut [u16],
+    times: &mut [u32],
+) -> Result<usize, Refusal>
     ensures { ListedPairs (pairs_asked r s.now k) numbers.old times.old result
         numbers.new times.new }
 {
-    match xr::locate(r, s, k) {
-        Located::At(at, n) => pairs(r, utils::part(s, at, n), numbers, times),
-        Located::Missing(x) => Answer::Refused(x),
-    }
+    let (at, n) = xr::locate(r, s, k)?;
+    pairs(r, utils::part(s, at, n), numbers, times)
 }

@@ -1,5 +1,6 @@
 -- One turn of the pass over a list's records, on plain lists and numbers. Assumes nothing.
 --     Sizing      after so many good blocks of so many bytes, the pass stands at a place, and the rest is still to come
+use Rattle.std.specs.Prelude.{Err}
 use Prim.Native.Nat.{ℕ, suc, ◌+◌, ◌-◌, ◌≤◌, ◌<◌}
 use mathlib.Core.Path.{◌≡◌, refl, sym, ap, ◌∙◌}
 use mathlib.Core.Bool.{true, false}
@@ -9,7 +10,6 @@ use native.Mathlib.Omega.{arith}
 use lib.ListN.{length, drop, length-drop}
 use Rattle.laws.proofs.Tests.{and-true}
 use Rattle.def_refusals.specs.declared.Refusal.TheVariants.{BadRecord}
-use Rattle.def_refusals.specs.declared.Answer.TheVariants.{Refused}
 use Rattle.def_jobs.specs.declared.Layout.{Layout}
 use Rattle.def_jobs.specs.Jobs.{Job, is_whole, job_at, is_block_job, jobs_fault}
 use Rattle.def_jobs.specs.Layout.{block_bytes, blocks_bytes}
@@ -102,7 +102,7 @@ module _ (layout : Layout) (list : List ℕ) (start : ℕ) where
               (turned good)
 
       -- a bad record ends the pass: 12 with its index
-      pub refused : is_block_at (drop at list) ≡ false → Refused (BadRecord (blocks + 1)) ≡ rest_answer layout start js
+      pub refused : is_block_at (drop at list) ≡ false → Err (BadRecord (blocks + 1)) ≡ rest_answer layout start js
       refused bad =
           rw add-one
           (rest-bad layout start js (BadRecord (suc blocks))

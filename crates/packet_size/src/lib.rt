@@ -8,13 +8,7 @@ ghost use Rattle.jobs.specs.Places.{jobs_behind};
 ghost use Rattle.packet_size.specs.Sizes.{is_header_at, judged_first, on_sized, size_answer, rest_answer};
 
 use def_jobs::Layout;
-use def_refusals::{Answer, Refusal};
-
-fn wide16(x: u16) -> usize
-    ensures { result ≡ x }
-{
-    x as usize
-}
+use def_refusals::Refusal;
 
 // Whether a whole and good header record stands first.
 fn is_header_first(list: &[u8]) -> bool
@@ -39,21 +33,21 @@ fn judged_first(layout: Layout, list: &[u8]) -> usize
 }
 
 // 14 of so many blocks and bytes, or the bytes.
-fn fitting(blocks: usize, bytes: usize) -> Answer
+fn fitting(blocks: usize, bytes: usize) -> Result<usize, Refusal>
     ensures { result ≡ on_sized (size_fault blocks bytes) bytes }
 {
     if 31 < blocks {
-        return Answer::Refused(Refusal::TooMany(blocks, 31));
+        return Err(Refusal::TooMany(blocks, 31));
     }
     if 262144 < bytes {
-        return Answer::Refused(Refusal::TooMany(bytes, 262144));
+        return Err(Refusal::TooMany(bytes, 262144));
     }
-    Answer::Done(bytes)
+    Ok(bytes)
 }
 
 // How many bytes the packet has, or 12, then 14, of the records from a place on, with what stands before their blocks.
 // Where the pass stops before the end, a bad or a cut record stands.
-fn size_behind(layout: Layout, list: &[u8], from: usize, start: usize) -> Answer
+fn size_behind(layout: Layout, list: &[u8], from: usize, start: usize) -> Result<usize, Refusal>
     requires { (from ≤ length list.now) × (start ≤ 260) }
     ensures { result ≡ rest_answer layout start (jobs_behind (drop from list.now)) }
 {
@@ -71,18 +65,18 @@ fn size_behind(layout: Layout, list: &[u8], from: usize, start: usize) -> Answer
         at += jobs::next_at(rest, 0);
     }
     if at < list.len() {
-        return Answer::Refused(Refusal::BadRecord(blocks + 1));
+        return Err(Refusal::BadRecord(blocks + 1));
     }
     fitting(blocks, bytes)
 }
 
 // How many bytes the packet of a job list has, or 12, then 14, in one pass over its records.
-pub fn packet_size(layout: Layout, list: &[u8]) -> Answer
+pub fn packet_size(layout: Layout, list: &[u8]) -> Result<usize, Refusal>
     ensures { result ≡ size_answer layout (jobs_of list.now) }
 {
     if is_header_first(list) {
-        let start = 8 + wide16(little_endian::u16_from_le_bytes(jobs::body_at(list, 0), 4));
+        let start = 8 + usize::from(little_endian::u16_from_le_bytes(jobs::body_at(list, 0), 4));
         return size_behind(layout, list, jobs::next_at(list, 0), start);
     }
-    Answer::Refused(Refusal::BadRecord(0))
+    Err(Refusal::BadRecord(0))
 }

@@ -1,4 +1,5 @@
 -- The events of a complete item, as `put_word` and `put` store them. Assumes nothing.
+use Rattle.std.specs.Prelude.{Some, None}
 use Prim.Native.Nat.{ℕ, ◌+◌, ◌*◌, ◌%◌, ◌^◌}
 use mathlib.Core.Path.{◌≡◌, sym, ap, ◌∙◌}
 use mathlib.Core.List.{List, [], ◌∷◌, map}
@@ -15,7 +16,6 @@ use Rattle.event_lists.specs.Laid.{Laid}
 use Rattle.event_lists.proofs.LaidLaws.{laid_none, laid_as, laid_word}
 use Rattle.states.specs.declared.Known.{Known}
 use Rattle.states.specs.declared.Portions.{Portions}
-use Rattle.states.specs.declared.Lone.TheVariants.{One, Nothing}
 use Rattle.states.specs.Steps.{word, low16, thinning_in, numbers_in, lone_of, shown_by}
 use Rattle.steps.proofs.WeightLaws.{shown-word, shown-lone}
 
@@ -38,15 +38,15 @@ module _ (st : Portions) where
     word-laid p q r = laid_as shown-as (laid_word xs p q r)
 
   -- one event e
-  module _ (w : st.item ≡ word → ⊥) (e : Event) (o : lone_of st ≡ One e) where
+  module _ (w : st.item ≡ word → ⊥) (e : Event) (o : lone_of st ≡ Some e) where
     pub length-lone : length (shown_by st) ≡ 1
-    length-lone = ap length (shown-lone st (One e) w o)
+    length-lone = ap length (shown-lone st (Some e) w o)
 
     pub lone-laid : {n n1 : ℕ} {t u v z t1 u1 v1 z1 : List ℕ} → Laid (e ∷ []) n t u v z t1 u1 v1 z1 n1
         → Laid (shown_by st) n t u v z t1 u1 v1 z1 n1
-    lone-laid p = laid_as (sym (shown-lone st (One e) w o)) p
+    lone-laid p = laid_as (sym (shown-lone st (Some e) w o)) p
 
   -- none
-  pub nothing-laid : (st.item ≡ word → ⊥) → lone_of st ≡ Nothing → {n : ℕ} {t u v z : List ℕ}
+  pub nothing-laid : (st.item ≡ word → ⊥) → lone_of st ≡ None → {n : ℕ} {t u v z : List ℕ}
       → Laid (shown_by st) n t u v z t u v z n
-  nothing-laid w o = laid_as (sym (shown-lone st Nothing w o)) laid_none
+  nothing-laid w o = laid_as (sym (shown-lone st None w o)) laid_none

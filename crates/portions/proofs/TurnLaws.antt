@@ -4,6 +4,7 @@
 --     some_turn, ..     these bytes, and then the others
 --     whole-at          when a whole block is there
 --     whole-turn, ..    its bytes, and then the others
+use Rattle.std.specs.Prelude.{Ok}
 use Prim.Native.Nat.{ℕ, ◌+◌, ◌*◌, ◌-◌, ◌≤◌, ◌<◌, min}
 use mathlib.Core.Path.{◌≡◌, refl, sym, ap, ap₂, ◌∙◌}
 use mathlib.Core.List.{List, ◌++◌, append_assoc}
@@ -11,7 +12,6 @@ use native.Mathlib.Nat.{add-zero}
 use native.Mathlib.Omega.{arith}
 use lib.ListN.{length, drop, take-append-drop, length-append}
 use lib.Seq.{drop-drop}
-use Rattle.def_refusals.specs.declared.Checked.TheVariants.{Fine}
 use Rattle.utils.proofs.BytesLaws.{Bytes, be16-part}
 use Rattle.def_wire.specs.Bytes.{be32, four}
 use Rattle.def_wire.specs.Packet.{part}
@@ -103,7 +103,7 @@ be32-part x at n h =
 module _ (s : Portions) (x : List ℕ) (at l w : ℕ) (u : Bytes x) (e : w ≡ be32 x at) (r : l ≡ block_length (four w))
   where
     pub whole-at : s ≡ state block 4 0 0 s.behind s.known → 4 ≤ l → at + l ≤ length x
-        → block_fault (s.behind + 4) (four w) ≡ Fine → lost_fault (kind_of (type_of (part x at l))) (part x at l) ≡ Fine
+        → block_fault (s.behind + 4) (four w) ≡ Ok tt → lost_fault (kind_of (type_of (part x at l))) (part x at l) ≡ Ok tt
         → WholeAt s x at l
     whole-at i h o f c =
         let v = part x at l in

@@ -4,8 +4,7 @@
 --     Turned          from an index on, m bytes first: their events es, and the state st behind them
 --     TurnCounted     a turn whose events are counted
 --     TurnStored      a turn whose events are stored in four lists from index n on
-use Rattle.std.specs.Prelude.{ℕ, ◌+◌, ◌≤◌, ◌<◌, ◌≡◌, List, ◌++◌, length, drop}
-use Rattle.def_refusals.specs.declared.Checked.TheVariants.{Fine}
+use Rattle.std.specs.Prelude.{ℕ, ◌+◌, ◌≤◌, ◌<◌, ◌≡◌, List, ◌++◌, length, drop, Ok}
 use Rattle.def_wire.specs.Bytes.{byte_at}
 use Rattle.def_wire.specs.Packet.{part}
 use Rattle.def_wire.specs.Block.{type_of, block_length, kind_of}
@@ -22,8 +21,8 @@ pub record WholeAt (s : Portions) (x : List ℕ) (at r : ℕ) : Type 0 where
   pub fits : at + r ≤ length x
   pub bytes : (i : ℕ) → byte_at (part x at r) i < 256
   pub long : block_length (part x at r) ≡ r
-  pub fine : block_fault (s.behind + 4) (part x at r) ≡ Fine
-  pub clear : lost_fault (kind_of (type_of (part x at r))) (part x at r) ≡ Fine
+  pub fine : block_fault (s.behind + 4) (part x at r) ≡ Ok tt
+  pub clear : lost_fault (kind_of (type_of (part x at r))) (part x at r) ≡ Ok tt
 
 pub record Turned (s : Portions) (x : List ℕ) (at : ℕ) (es : List Event) (st : Portions) (m : ℕ) : Type 0 where
   pub some : 0 < m

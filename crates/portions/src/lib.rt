@@ -12,8 +12,8 @@ ghost use Rattle.states.specs.Call.{announced_by, taken_in, past_by, past_of, ca
 ghost use Rattle.portions.specs.Turn.{WholeAt, TurnCounted, TurnStored};
 
 use def_portions::Event;
-use def_refusals::{Checked, Refusal};
-use states::{Followed, Lone, Portions, Settled};
+use def_refusals::Refusal;
+use states::{Followed, Portions, Settled};
 
 // No byte has more events than this: a run of 16,383 numbers and the packet's end. A caller who lends room for so many
 // can give one byte at a time and is never refused as 11.
@@ -56,8 +56,8 @@ fn put_item(
         );
     }
     match steps::lone(st) {
-        Lone::One(e) => event_lists::put(tags, numbers, values, sums, n, e),
-        Lone::Nothing => n,
+        Some(e) => event_lists::put(tags, numbers, values, sums, n, e),
+        None => n,
     }
 }
 
@@ -102,7 +102,7 @@ fn put_settled(
         };
     }
     match steps::fault(st) {
-        Checked::Fine => {
+        Ok(()) => {
             let past = put_item(st, tags, numbers, values, sums, n);
             let next = steps::passed(st);
             let end = put_end(next, tags, numbers, values, sums, past);
@@ -111,7 +111,7 @@ fn put_settled(
                 events: end,
             }
         }
-        Checked::Unfit(_) => Settled {
+        Err(_) => Settled {
             state: st,
             events: n,
         },
@@ -155,11 +155,11 @@ fn whole_block(s: Portions, x: &[u8], at: usize) -> usize
         return 0;
     }
     match steps::block_fault(s.behind, w) {
-        Checked::Fine => match block_events::lost_fault(utils::part(x, at, l)) {
-            Checked::Fine => l,
-            Checked::Unfit(_) => 0,
+        Ok(()) => match block_events::lost_fault(utils::part(x, at, l)) {
+            Ok(()) => l,
+            Err(_) => 0,
         },
-        Checked::Unfit(_) => 0,
+        Err(_) => 0,
     }
 }
 
@@ -377,24 +377,24 @@ fn taken_in(st: Portions) -> usize
 }
 
 // 19: more bytes than the header announces.
-fn past(announced: usize, given: usize) -> Checked
+fn past(announced: usize, given: usize) -> Result<(), Refusal>
     ensures { result ≡ past_by announced given }
 {
     if given <= announced {
-        return Checked::Fine;
+        return Ok(());
     }
-    Checked::Unfit(Refusal::PastEnd(announced, given))
+    Err(Refusal::PastEnd(announced, given))
 }
 
 // The same of a call. While the header is not known, or not good, nothing is announced.
-fn past_end(st: Portions, x: &[u8]) -> Checked
+fn past_end(st: Portions, x: &[u8]) -> Result<(), Refusal>
     ensures { result ≡ past_of st x.now }
 {
     let announced = announced_by(st, x);
     let given = taken_in(st) + x.len();
     if st.item == states::HEAD {
         if announced == 0 {
-            return Checked::Fine;
+            return Ok(());
         }
         return past(announced, given);
     }
@@ -402,31 +402,27 @@ fn past_end(st: Portions, x: &[u8]) -> Checked
 }
 
 // 11: less room than events. They are counted only where the room might be too little.
-fn too_little(st: Portions, x: &[u8], room: usize) -> Checked
+fn too_little(st: Portions, x: &[u8], room: usize) -> Result<(), Refusal>
     requires { length (shows st x.now) ≤ 18446744073709551615 }
     ensures { result ≡ room_fault (shows st x.now) room }
 {
     if x.len() <= room / MOST_EVENTS {
-        return Checked::Fine;
+        return Ok(());
     }
     let needed = count(st, x);
     if needed <= room {
-        return Checked::Fine;
+        return Ok(());
     }
-    Checked::Unfit(Refusal::NoRoom(needed, room))
+    Err(Refusal::NoRoom(needed, room))
 }
 
 // The refusal of a call that takes nothing: one that stays, 19, 11.
-fn call_fault(st: Portions, x: &[u8], room: usize) -> Checked
+fn call_fault(st: Portions, x: &[u8], room: usize) -> Result<(), Refusal>
     ensures { result ≡ call_fault st x.now room }
 {
-    match steps::fault(st) {
-        Checked::Fine => match past_end(st, x) {
-            Checked::Fine => too_little(st, x, room),
-            Checked::Unfit(y) => Checked::Unfit(y),
-        },
-        Checked::Unfit(y) => Checked::Unfit(y),
-    }
+    steps::fault(st)?;
+    past_end(st, x)?;
+    too_little(st, x, room)
 }
 
 // Takes some bytes of a packet, or none, and lists their events: the state behind them, how many events were listed,
@@ -444,7 +440,7 @@ pub fn follow(
         sums.old result tags.new numbers.new values.new sums.new }
 {
     match call_fault(st, x, room_in(tags, numbers, values, sums)) {
-        Checked::Fine => {
+        Ok(()) => {
             let r = store(st, x, tags, numbers, values, sums);
             let s = r.state;
             Followed {
@@ -454,11 +450,11 @@ pub fn follow(
                 refusal: steps::fault(s),
             }
         }
-        Checked::Unfit(y) => Followed {
+        Err(y) => Followed {
             state: st,
             taken: 0,
             events: 0,
-            refusal: Checked::Unfit(y),
+            refusal: Err(y),
         },
     }
 }

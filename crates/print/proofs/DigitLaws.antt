@@ -1,9 +1,9 @@
 -- The laws of decimal digits.
 --     decimal-digits     a number's digits are its last k, where k is the fewest that hold it
---     Placing            a count of digits on its way
+--     places-of          how many digits a number has
 --     set_last, Spelling     digits stored from the last one on
-use Prim.Native.Nat.{ℕ, zero, suc, ◌+◌, ◌*◌, ◌-◌, ◌/◌, ◌%◌, ◌^◌, ◌≤◌, ◌<◌}
-use mathlib.Core.Path.{◌≡◌, refl, sym, ap, subst, ◌∙◌}
+use Prim.Native.Nat.{ℕ, zero, suc, ◌+◌, ◌*◌, ◌-◌, ◌/◌, ◌%◌, ◌^◌, ◌≤◌, ◌<◌, max}
+use mathlib.Core.Path.{◌≡◌, refl, sym, ap, ◌∙◌}
 use mathlib.Core.Bool.{Bool, cond}
 use mathlib.Core.List.{List, [], ◌∷◌, ◌++◌}
 use native.Mathlib.Nat.{add-zero, pow-suc, pow-le-pow_right, mod-eq_of_lt}
@@ -68,37 +68,15 @@ set_last (y ∷ a) l i j x e =
     ap (λ (m : List ℕ). sets m (suc i) a) (set_comm l j i x y (λ d. omega arith))
     ∙ set_last a (set l i y) (suc i) j x (omega arith)
 
--- k digits hold all that is below `over`, and fewer do not hold n
-pub record Placing (n k over : ℕ) : Type 0 where
-  pub power : over ≡ 10 ^ k
-  pub some : 1 ≤ k
-  pub few : k ≤ 19
-  pub below : 1 < k → 10 ^ (k - 1) ≤ n
-
-module _ {n k over : ℕ} (p : Placing n k over) where
-  pub placing-done : n < over → (IsDigitCount 10 1 n k) × (k ≤ 20)
-  placing-done h = ((p.some, (rw p.power at h), p.below), omega (arith, p.few))
-
-  pub placing-last : n < 18446744073709551616 → over ≤ n → k ≡ 19 → (IsDigitCount 10 1 n 20) × (20 ≤ 20)
-  placing-last f h e =
-      let q : 10 ^ 19 ≤ n = subst (λ (j : ℕ). 10 ^ j ≤ n) e (rw p.power at h) in
-      ((omega arith, omega arith, λ _. q), omega arith)
-
-  pub placing-fits : (k ≡ 19 → ⊥) → over * 10 < 18446744073709551616
-  placing-fits u =
-      let h : k ≤ 18 = omega (arith, p.few, u) in
-      let q : 10 ^ k ≤ 10 ^ 18 = pow-le-pow_right (omega arith) {i = k} {j = 18} h in
-      omega (arith, p.power)
-
-  pub placing-next : (k ≡ 19 → ⊥) → over ≤ n → Placing n (k + 1) (over * 10)
-  placing-next u h =
-      let e : k + 1 - 1 ≡ k = omega arith in
-      record {
-        power = rw (p.power, add-one) (sym (pow-suc 10 k));
-        some = omega arith;
-        few = omega (arith, p.few, u);
-        below = λ _. rw (e, ← p.power) h;
-      }
+-- a number from the k-th power of ten on and below the next has k + 1 digits; and 0 has as many as 1
+pub places-of : (n m k : ℕ) → m ≡ max n 1 → 10 ^ k ≤ m → m < 10 * 10 ^ k → k < 20
+    → IsDigitCount 10 1 n (k + 1) × (k + 1 ≤ 20)
+places-of n m zero e p q h = ((omega arith, omega arith, λ l. absurd (omega arith)), omega arith)
+places-of n m (suc k) e p q h =
+    let a : suc k + 1 - 1 ≡ suc k = omega arith in
+    let b : 10 ^ (suc k + 1) ≡ 10 ^ suc k * 10 = rw add-one (pow-suc 10 (suc k)) in
+    let d : 10 ^ 1 ≤ 10 ^ suc k = pow-le-pow_right (omega arith) {i = 1} {j = suc k} (omega arith) in
+    ((omega arith, omega (arith, b), λ _. rw a (omega arith)), omega arith)
 
 -- the last digits are stored, and i are left, those of `rest`
 pub record Spelling (l₀ : List ℕ) (at k n : ℕ) (l : List ℕ) (i rest : ℕ) : Type 0 where

@@ -18,11 +18,7 @@ const STDOUT_FILENO: i32 = 1;
 pub fn send(fd: i32, buf: &[u8], at: usize) -> usize
     ensures { result ≡ 0 }
 {
-    if at <= buf.len() {
-        io::write_all(fd, &buf[..at]);
-    } else {
-        io::write_all(fd, buf);
-    }
+    io::write_all(fd, &buf[..at.min(buf.len())]);
     0
 }
 
@@ -53,14 +49,9 @@ fn copied(buf: &mut [u8], at: usize, t: &[u8]) -> usize
     requires { at + length t.now ≤ length buf.old }
     ensures { Wrote buf.old at t.now buf.new result }
 {
-    let mut to = at;
-    let mut i: usize = 0;
-    while i < t.len() {
-        buf[to] = t[i];
-        to += 1;
-        i += 1;
-    }
-    to
+    let end = at + t.len();
+    buf[at..end].copy_from_slice(t);
+    end
 }
 
 // A text byte by byte, whatever room there is.
@@ -68,10 +59,8 @@ fn slowly(buf: &mut [u8], at: usize, t: &[u8]) -> usize
     ensures { Added buf.old at t.now buf.new result }
 {
     let mut n = at;
-    let mut i: usize = 0;
-    while i < t.len() {
-        n = byte(buf, n, t[i]);
-        i += 1;
+    for b in t {
+        n = byte(buf, n, *b);
     }
     n
 }
@@ -79,35 +68,24 @@ fn slowly(buf: &mut [u8], at: usize, t: &[u8]) -> usize
 pub fn text(buf: &mut [u8], at: usize, t: &[u8]) -> usize
     ensures { Added buf.old at t.now buf.new result }
 {
-    if at <= buf.len() {
-        if t.len() <= buf.len() - at {
-            return copied(buf, at, t);
-        }
+    if at <= buf.len() && t.len() <= buf.len() - at {
+        return copied(buf, at, t);
     }
     slowly(buf, at, t)
 }
 
-// How many decimal digits a number has.
+// How many decimal digits a number has: 0 has one, as 1 has.
 fn places(n: u64) -> usize
     ensures { (IsDigitCount 10 1 n result) × (result ≤ 20) }
 {
-    let mut k: usize = 1;
-    let mut over: u64 = 10;
-    while over <= n {
-        if k == 19 {
-            return 20;
-        }
-        over *= 10;
-        k += 1;
-    }
-    k
+    n.max(1).ilog10() as usize + 1
 }
 
 fn digit(d: u64) -> u8
     requires { d < 10 }
     ensures { result ≡ glyph_of d }
 {
-    48 + d as u8
+    b'0' + d as u8
 }
 
 // A number's last k digits, for which there is room.
@@ -115,10 +93,8 @@ fn spell(buf: &mut [u8], at: usize, n: u64, k: usize) -> usize
     requires { at + k ≤ length buf.old }
     ensures { Wrote buf.old at (last_digits 10 k n) buf.new result }
 {
-    let mut i = k;
     let mut rest = n;
-    while 0 < i {
-        i -= 1;
+    for i in (0..k).rev() {
         buf[at + i] = digit(rest % 10);
         rest /= 10;
     }
@@ -138,10 +114,8 @@ pub fn decimal(buf: &mut [u8], at: usize, n: u64) -> usize
     ensures { Added buf.old at (decimal_of n) buf.new result }
 {
     let k = places(n);
-    if at <= buf.len() {
-        if k <= buf.len() - at {
-            return spell(buf, at, n, k);
-        }
+    if at <= buf.len() && k <= buf.len() - at {
+        return spell(buf, at, n, k);
     }
     decimal_slowly(buf, at, n)
 }
@@ -166,7 +140,7 @@ fn glyph(d: u8) -> u8
     requires { d ≤ 15 }
     ensures { result ≡ glyph_of d }
 {
-    if d < 10 { 48 + d } else { 87 + d }
+    if d < 10 { b'0' + d } else { b'a' + (d - 10) }
 }
 
 // Two lower-case hexadecimal digits.
@@ -183,28 +157,13 @@ pub fn line_end(buf: &mut [u8], at: usize) -> usize
     byte(buf, at, b'\n')
 }
 
-fn wide16(x: u16) -> u64
-    ensures { result ≡ x }
-{
-    x as u64
-}
-
-fn wide32(x: u32) -> u64
-    ensures { result ≡ x }
-{
-    x as u64
-}
-
 // The first n of a list of 16-bit numbers, a space before each.
 pub fn list16(buf: &mut [u8], at: usize, list: &[u16], n: usize) -> usize
     ensures { Added buf.old at (spaced_all (take n list.now)) buf.new result }
 {
-    let stop = utils::lesser(n, list.len());
     let mut to = at;
-    let mut i: usize = 0;
-    while i < stop {
-        to = number(buf, to, wide16(list[i]));
-        i += 1;
+    for x in list.iter().take(n) {
+        to = number(buf, to, u64::from(*x));
     }
     to
 }
@@ -213,8 +172,8 @@ pub fn list16(buf: &mut [u8], at: usize, list: &[u16], n: usize) -> usize
 fn pair(buf: &mut [u8], at: usize, a: u16, b: u32) -> usize
     ensures { Added buf.old at (spaced_all (a ∷ b ∷ [])) buf.new result }
 {
-    let n = number(buf, at, wide16(a));
-    number(buf, n, wide32(b))
+    let n = number(buf, at, u64::from(a));
+    number(buf, n, u64::from(b))
 }
 
 // The first n of two lists side by side.
@@ -222,12 +181,9 @@ pub fn list_pairs(buf: &mut [u8], at: usize, numbers: &[u16], times: &[u32], n: 
     ensures { Added buf.old at
         (spaced_all (two_in_turn (take n numbers.now) (take n times.now))) buf.new result }
 {
-    let stop = utils::lesser(n, utils::lesser(numbers.len(), times.len()));
     let mut to = at;
-    let mut i: usize = 0;
-    while i < stop {
-        to = pair(buf, to, numbers[i], times[i]);
-        i += 1;
+    for (x, time) in numbers.iter().zip(times).take(n) {
+        to = pair(buf, to, *x, *time);
     }
     to
 }
@@ -236,9 +192,9 @@ pub fn list_pairs(buf: &mut [u8], at: usize, numbers: &[u16], times: &[u32], n: 
 fn triple(buf: &mut [u8], at: usize, a: u32, b: u32, c: u32) -> usize
     ensures { Added buf.old at (spaced_all (a ∷ b ∷ c ∷ [])) buf.new result }
 {
-    let n = number(buf, at, wide32(a));
-    let m = number(buf, n, wide32(b));
-    number(buf, m, wide32(c))
+    let n = number(buf, at, u64::from(a));
+    let m = number(buf, n, u64::from(b));
+    number(buf, m, u64::from(c))
 }
 
 // The first n of three lists side by side.
@@ -247,12 +203,9 @@ pub fn list_entries(buf: &mut [u8], at: usize, a: &[u32], b: &[u32], c: &[u32], 
         (spaced_all (three_in_turn (take n a.now) (take n b.now) (take n c.now)))
         buf.new result }
 {
-    let stop = utils::lesser(n, utils::lesser(a.len(), utils::lesser(b.len(), c.len())));
     let mut to = at;
-    let mut i: usize = 0;
-    while i < stop {
-        to = triple(buf, to, a[i], b[i], c[i]);
-        i += 1;
+    for ((x, y), z) in a.iter().zip(b).zip(c).take(n) {
+        to = triple(buf, to, *x, *y, *z);
     }
     to
 }
@@ -261,12 +214,9 @@ pub fn list_entries(buf: &mut [u8], at: usize, a: &[u32], b: &[u32], c: &[u32], 
 pub fn hex_list(buf: &mut [u8], at: usize, list: &[u8], n: usize) -> usize
     ensures { Added buf.old at (hexes_of (take n list.now)) buf.new result }
 {
-    let stop = utils::lesser(n, list.len());
     let mut to = at;
-    let mut i: usize = 0;
-    while i < stop {
-        to = hex(buf, to, list[i]);
-        i += 1;
+    for b in list.iter().take(n) {
+        to = hex(buf, to, *b);
     }
     to
 }

@@ -1,11 +1,11 @@
 -- The laws of the crate's doublings and of its test of a number (def_crate's Sequence): the one place that unfolds
 -- them. Assumes nothing.
+use Rattle.std.specs.Prelude.{Some, None}
 use Rattle.std.proofs.Common.{◌≡◌, ℕ, suc, ◌+◌, ◌-◌, ◌*◌, ◌%◌, ◌^◌, ◌<◌, ◌≤◌, true, false, ltb, ap, ◌∙◌, add-zero, mod-eq_of_lt, mul_assoc, arith, pow_pos, pow-add, le-ltb, lt-ltb, le-leb}
 use native.Mathlib.Nat.{mod-add-mod, add-mod-mod}
 use lib.Pow.{low, mod-mod-pow}
 use borrow.Author.Tests.{lt-leb}
 use Rattle.def_standard.specs.Range.{circle}
-use Rattle.def_crate.specs.declared.Tried.TheVariants.{Passes, Fails}
 use Rattle.def_crate.specs.Sequence.{doubled_of, sequence_of, passes, offset_sequence, moved_by}
 use Rattle.range.specs.Steps.{step_of, onward}
 
@@ -46,11 +46,11 @@ module _ (start end s : ℕ) where
 
 module _ (q start end t : ℕ) where
   pub offset-passes : passes start end (sequence_of q start t) ≡ true
-      → offset_sequence q start end t ≡ Passes (sequence_of q start t)
+      → offset_sequence q start end t ≡ Some (sequence_of q start t)
   unfolding offset_sequence
   offset-passes e = rw e
 
-  pub offset-fails : passes start end (sequence_of q start t) ≡ false → offset_sequence q start end t ≡ Fails
+  pub offset-fails : passes start end (sequence_of q start t) ≡ false → offset_sequence q start end t ≡ None
   unfolding offset_sequence
   offset-fails e = rw e
 

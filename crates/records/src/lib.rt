@@ -7,7 +7,7 @@
 ghost use Rattle.std.specs.Prelude.{◌≡◌};
 ghost use Rattle.def_wire.specs.Block.{rle_type, ranged_type, kind_type, rle_of, ranged_of, kind_of, kind_in};
 
-use def_wire::{Fields, Kind, KindOr, LongTime, Ranged, RangedOr, Reading, Rle, RleOr, Summary};
+use def_wire::{Fields, Kind, LongTime, Ranged, Reading, Rle, Summary};
 
 // Which packets were heard (RFC 3611, 4.1).
 #[derive(Drop)]
@@ -136,54 +136,54 @@ pub fn kind_type(k: Kind) -> u8
 }
 
 // The kind of a type number, where it has one.
-pub fn rle_of(t: u8) -> RleOr
+pub fn rle_of(t: u8) -> Option<Rle>
     ensures { result ≡ rle_of t }
 {
     if t == LossRle::BLOCK_TYPE {
-        return RleOr::AnRle(Rle::Loss);
+        return Some(Rle::Loss);
     }
     if t == DuplicateRle::BLOCK_TYPE {
-        return RleOr::AnRle(Rle::Duplicate);
+        return Some(Rle::Duplicate);
     }
-    RleOr::NoRle
+    None
 }
 
-pub fn ranged_of(t: u8) -> RangedOr
+pub fn ranged_of(t: u8) -> Option<Ranged>
     ensures { result ≡ ranged_of t }
 {
     match rle_of(t) {
-        RleOr::AnRle(a) => RangedOr::ARange(Ranged::Chunks(a)),
-        RleOr::NoRle => {
+        Some(a) => Some(Ranged::Chunks(a)),
+        None => {
             if t == PacketReceiptTimes::BLOCK_TYPE {
-                return RangedOr::ARange(Ranged::Times);
+                return Some(Ranged::Times);
             }
-            RangedOr::NoRange
+            None
         }
     }
 }
 
-pub fn kind_of(t: u8) -> KindOr
+pub fn kind_of(t: u8) -> Option<Kind>
     ensures { result ≡ kind_of t }
 {
     match ranged_of(t) {
-        RangedOr::ARange(g) => KindOr::AKind(Kind::Spans(g)),
-        RangedOr::NoRange => {
+        Some(g) => Some(Kind::Spans(g)),
+        None => {
             if t == ReceiverReferenceTime::BLOCK_TYPE {
-                return KindOr::AKind(Kind::Clock);
+                return Some(Kind::Clock);
             }
             if t == DelaySinceLastReceiverReport::BLOCK_TYPE {
-                return KindOr::AKind(Kind::Echoes);
+                return Some(Kind::Echoes);
             }
             if t == StatisticsSummary::BLOCK_TYPE {
-                return KindOr::AKind(Kind::Statistics);
+                return Some(Kind::Statistics);
             }
-            KindOr::NoKind
+            None
         }
     }
 }
 
 // The same of a reading: the crate has no type 6.
-pub fn kind_in(r: Reading, t: u8) -> KindOr
+pub fn kind_in(r: Reading, t: u8) -> Option<Kind>
     ensures { result ≡ kind_in r t }
 {
     let kind = kind_of(t);
@@ -191,7 +191,7 @@ pub fn kind_in(r: Reading, t: u8) -> KindOr
         Reading::Standard => kind,
         Reading::Crate => {
             if t == StatisticsSummary::BLOCK_TYPE {
-                return KindOr::NoKind;
+                return None;
             }
             kind
         }

@@ -18,6 +18,7 @@ fn row(number: u8, first: usize, second: usize) -> Numbered
 }
 
 // The row of RULES' table that a refusal is (RULES, "Refusal numbers").
+#[tactic(auto, unfolding(def_refusals::specs::Numbers::numbered))]
 pub fn number(x: Refusal) -> Numbered
     ensures { result ≡ numbered x }
 {

@@ -6,11 +6,11 @@ mod list;
 
 ghost use Rattle.std.specs.Prelude.{◌≡◌, length, take};
 ghost use Rattle.def_wire.specs.Bytes.{words16};
-ghost use Rattle.def_refusals.specs.Answers.{shown, Listed};
+ghost use Rattle.def_refusals.specs.Answers.{Listed};
 ghost use Rattle.def_crate.specs.Crate.{crate_numbers_from};
 ghost use Rattle.rle.specs.Most.{longest};
 
-use def_refusals::{Answer, Refusal};
+use def_refusals::Refusal;
 
 // The crate reading's functions read no more bytes than the longest packet has.
 const LONGEST: usize = 262144;
@@ -26,21 +26,27 @@ pub fn count_crate(bytes: &[u8], end: u16, thinning: u8, begin: u16) -> usize
 }
 
 // Lists the crate's numbers, up to the first that fails, or 11. Port of: rle.rs Rle::sequence_iter.
-pub fn fill_crate(bytes: &[u8], end: u16, thinning: u8, begin: u16, out: &mut [u16]) -> Answer
-    ensures { Listed (shown (crate_numbers_from end thinning begin
+pub fn fill_crate(
+    bytes: &[u8],
+    end: u16,
+    thinning: u8,
+    begin: u16,
+    out: &mut [u16],
+) -> Result<usize, Refusal>
+    ensures { Listed (Ok (crate_numbers_from end thinning begin
         (words16 (take longest bytes.now)))) out.old result out.new }
 {
     let size = utils::lesser(LONGEST, bytes.len());
     let part = &bytes[..size];
     let most = list::at_most(part);
     if most == 0 {
-        return Answer::Done(0);
+        return Ok(0);
     }
     if out.len() < most {
         let need = list::tally_crate(part, end, thinning, begin);
         if out.len() < need {
-            return Answer::Refused(Refusal::NoRoom(need, out.len()));
+            return Err(Refusal::NoRoom(need, out.len()));
         }
     }
-    Answer::Done(list::list_crate(part, end, thinning, begin, out))
+    Ok(list::list_crate(part, end, thinning, begin, out))
 }

@@ -13,11 +13,10 @@ pub(crate) fn at_most(bytes: &[u8]) -> usize
     requires { length bytes.now ≤ 262144 }
     ensures { result ≡ most_of (words16 bytes.now) }
 {
-    let mut at: usize = 0;
+    let (words, _) = bytes.as_chunks();
     let mut n: u32 = 0;
-    while at + 1 < bytes.len() {
-        n += ones::weight(utils::pair(bytes[at], bytes[at + 1]));
-        at += 2;
+    for word in words {
+        n += ones::weight(u16::from_be_bytes(*word));
     }
     n as usize
 }
@@ -29,10 +28,10 @@ pub(crate) fn tally_crate(bytes: &[u8], end: u16, thinning: u8, begin: u16) -> u
 {
     let mut start = begin;
     let mut first = range::first_fail(begin, end, thinning);
-    let mut at: usize = 0;
     let mut n: usize = 0;
-    while at + 1 < bytes.len() {
-        let w = utils::pair(bytes[at], bytes[at + 1]);
+    let (words, _) = bytes.as_chunks();
+    for word in words {
+        let w = u16::from_be_bytes(*word);
         let covered = chunk::covers(w);
         if 0x4000 <= w {
             let stop = ones::stop_at(w, first, start, end, thinning);
@@ -46,7 +45,6 @@ pub(crate) fn tally_crate(bytes: &[u8], end: u16, thinning: u8, begin: u16) -> u
             first = ones::next_fail(first, covered, thinning, start, moved, end);
             start = moved;
         }
-        at += 2;
     }
     n
 }

@@ -7,10 +7,10 @@ mod list;
 ghost use Rattle.std.specs.Prelude.{◌≡◌, ◌||◌, length, drop};
 ghost use Rattle.def_wire.specs.Bytes.{words16};
 ghost use Rattle.def_wire.specs.Block.{lost_run, has, clear_rule};
-ghost use Rattle.def_refusals.specs.Answers.{shown, on_fine, Listed};
+ghost use Rattle.def_refusals.specs.Answers.{on_fine, Listed};
 ghost use Rattle.def_standard.specs.Standard.{numbers_of};
 
-use def_refusals::{Answer, Refusal};
+use def_refusals::Refusal;
 use def_standard::Range;
 
 // What a pass over words finds: how many numbers they list, and whether a run of ones of no length is among those up
@@ -29,23 +29,30 @@ fn tally(bytes: &[u8], g: Range) -> Counted
         ≡ (result.lost || has lost_run (words16 (drop result.at bytes.now))) }
 {
     let mut left = range::inside_count(g);
-    let mut at: usize = 0;
     let mut n: usize = 0;
     let mut lost = false;
-    while at + 1 < bytes.len() {
-        let w = utils::pair(bytes[at], bytes[at + 1]);
-        at += 2;
+    let (words, _) = bytes.as_chunks();
+    for (i, word) in words.iter().enumerate() {
+        let w = u16::from_be_bytes(*word);
         if w == 0x4000 {
             lost = true;
         }
         n += chunk::ones_before(w, left);
         let covered = chunk::covers(w) as usize;
         if left <= covered {
-            return Counted { n, lost, at };
+            return Counted {
+                n,
+                lost,
+                at: 2 * i + 2,
+            };
         }
         left -= covered;
     }
-    Counted { n, lost, at }
+    Counted {
+        n,
+        lost,
+        at: bytes.len(),
+    }
 }
 
 // How many numbers the words list. Port of: rle.rs Rle::sequence_iter and its count; differs: the standard reading, and
@@ -58,17 +65,17 @@ pub fn count_standard(bytes: &[u8], g: Range) -> usize
 }
 
 // Lists the numbers, or 11 with the room needed and the room lent, nothing written. Port of: rle.rs Rle::sequence_iter.
-pub fn fill_standard(bytes: &[u8], g: Range, out: &mut [u16]) -> Answer
-    ensures { Listed (shown (numbers_of g (words16 bytes.now))) out.old result
+pub fn fill_standard(bytes: &[u8], g: Range, out: &mut [u16]) -> Result<usize, Refusal>
+    ensures { Listed (Ok (numbers_of g (words16 bytes.now))) out.old result
         out.new }
 {
     if out.len() < range::inside_count(g) {
         let need = count_standard(bytes, g);
         if out.len() < need {
-            return Answer::Refused(Refusal::NoRoom(need, out.len()));
+            return Err(Refusal::NoRoom(need, out.len()));
         }
     }
-    Answer::Done(list::list_standard(bytes, g, out))
+    Ok(list::list_standard(bytes, g, out))
 }
 
 // Whether a run of ones of no length is among the words from an index on, or was found before.
@@ -83,22 +90,22 @@ fn is_lost(bytes: &[u8], lost: bool, at: usize) -> bool
 
 // Lists the numbers of the words of a block of L bytes: 7, where a run of ones of no length is among them, then 11. It
 // is found in the pass that counts, and behind the range's end, or where nothing is counted, by word_scan.
-pub fn fill_clear(bytes: &[u8], g: Range, l: usize, out: &mut [u16]) -> Answer
+pub fn fill_clear(bytes: &[u8], g: Range, l: usize, out: &mut [u16]) -> Result<usize, Refusal>
     ensures { Listed (on_fine (clear_rule l (words16 bytes.now))
-        (shown (numbers_of g (words16 bytes.now)))) out.old result out.new }
+        (Ok (numbers_of g (words16 bytes.now)))) out.old result out.new }
 {
     if range::inside_count(g) <= out.len() {
         if word_scan::has_lost_run(bytes) {
-            return Answer::Refused(Refusal::BadBlockLength(12, l));
+            return Err(Refusal::BadBlockLength(12, l));
         }
-        return Answer::Done(list::list_standard(bytes, g, out));
+        return Ok(list::list_standard(bytes, g, out));
     }
     let t = tally(bytes, g);
     if is_lost(bytes, t.lost, t.at) {
-        return Answer::Refused(Refusal::BadBlockLength(12, l));
+        return Err(Refusal::BadBlockLength(12, l));
     }
     if out.len() < t.n {
-        return Answer::Refused(Refusal::NoRoom(t.n, out.len()));
+        return Err(Refusal::NoRoom(t.n, out.len()));
     }
-    Answer::Done(list::list_standard(bytes, g, out))
+    Ok(list::list_standard(bytes, g, out))
 }

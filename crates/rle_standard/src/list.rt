@@ -15,10 +15,10 @@ pub(crate) fn list_standard(bytes: &[u8], g: Range, out: &mut [u16]) -> usize
     let step = range::doubled(1, g.thinning);
     let mut left = range::inside_count(g);
     let mut first = g.begin;
-    let mut at: usize = 0;
     let mut n: usize = 0;
-    while at + 1 < bytes.len() {
-        let w = utils::pair(bytes[at], bytes[at + 1]);
+    let (words, _) = bytes.as_chunks();
+    for word in words {
+        let w = u16::from_be_bytes(*word);
         n = ones::store_word(out, n, w, left, first, step);
         let covered = chunk::covers(w);
         if left <= covered as usize {
@@ -26,7 +26,6 @@ pub(crate) fn list_standard(bytes: &[u8], g: Range, out: &mut [u16]) -> usize
         }
         left -= covered as usize;
         first = range::moved_by(covered, g.thinning, first);
-        at += 2;
     }
     n
 }

@@ -4,10 +4,10 @@
 
 ghost use Rattle.std.specs.Prelude.{◌≡◌, ◌≤◌, length};
 ghost use Rattle.def_wire.specs.Bytes.{words16};
-ghost use Rattle.def_refusals.specs.Answers.{shown, Listed};
+ghost use Rattle.def_refusals.specs.Answers.{Listed};
 ghost use Rattle.laws.specs.Stores.{Filled};
 
-use def_refusals::{Answer, Refusal};
+use def_refusals::Refusal;
 
 // How many whole words there are.
 pub fn count_words(bytes: &[u8]) -> usize
@@ -21,25 +21,22 @@ fn list_words(bytes: &[u8], out: &mut [u16]) -> usize
     requires { length (words16 bytes.now) ≤ length out.old }
     ensures { Filled (words16 bytes.now) out.old result out.new }
 {
-    let mut at: usize = 0;
-    let mut n: usize = 0;
-    while at + 1 < bytes.len() {
-        out[n] = utils::pair(bytes[at], bytes[at + 1]);
-        n += 1;
-        at += 2;
+    let (words, _) = bytes.as_chunks();
+    for (n, word) in words.iter().enumerate() {
+        out[n] = u16::from_be_bytes(*word);
     }
-    n
+    words.len()
 }
 
 // Lists the chunk words themselves, or 11. Port of: rle.rs Rle::chunk_iter; differs: words, not kinds
 // (chunk::chunk_of gives a word's kind).
-pub fn fill_words(bytes: &[u8], out: &mut [u16]) -> Answer
-    ensures { Listed (shown (words16 bytes.now)) out.old result out.new }
+pub fn fill_words(bytes: &[u8], out: &mut [u16]) -> Result<usize, Refusal>
+    ensures { Listed (Ok (words16 bytes.now)) out.old result out.new }
 {
     let need = count_words(bytes);
     if need <= out.len() {
-        Answer::Done(list_words(bytes, out))
+        Ok(list_words(bytes, out))
     } else {
-        Answer::Refused(Refusal::NoRoom(need, out.len()))
+        Err(Refusal::NoRoom(need, out.len()))
     }
 }

@@ -1,12 +1,10 @@
 -- Statistics Summary blocks byte by byte, by computation: four items of eight bytes, one of four, and its event there.
+use Rattle.std.specs.Prelude.{Err, Some, None}
 use Prim.Native.Nat.{ℕ}
 use mathlib.Core.Path.{◌≡◌, refl}
 use mathlib.Core.List.{List, [], ◌∷◌}
 use lib.ListN.{take}
 use Rattle.def_refusals.specs.declared.Refusal.TheVariants.{BadBlockLength}
-use Rattle.def_refusals.specs.declared.Checked.TheVariants.{Unfit}
-use Rattle.def_wire.specs.declared.CountOr.TheVariants.{Counted, Uncounted}
-use Rattle.def_wire.specs.declared.JitterOr.TheVariants.{Jitter}
 use Rattle.def_wire.specs.declared.HopsOr.TheVariants.{HopLimit}
 use Rattle.def_wire.specs.Bytes.{pair_up}
 use Rattle.def_wire.specs.Block.{rle_of, ranged_of, kind_of, standard_rule}
@@ -125,9 +123,9 @@ shown : shows start packet
       ssrc = 7;
       begin = 65534;
       end = 3;
-      lost = Counted 258;
-      duplicates = Uncounted;
-      jitter = Jitter (spread 10 20 15 2147483650);
+      lost = Some 258;
+      duplicates = None;
+      jitter = Some (spread 10 20 15 2147483650);
       hops = HopLimit (byte_spread 60 64 62 1);
     })
     ∷ Start 99 4 ∷ End ∷ []
@@ -167,7 +165,7 @@ behind = refl
 abbrev longer : List ℕ
 longer = 128 ∷ 207 ∷ 0 ∷ 12 ∷ 0 ∷ 0 ∷ 0 ∷ 1 ∷ 6 ∷ 0 ∷ 0 ∷ 10 ∷ []
 
-refused : runs longer ≡ course (Header 52 1 ∷ []) (Unfit (BadBlockLength 40 44))
+refused : runs longer ≡ course (Header 52 1 ∷ []) (Err (BadBlockLength 40 44))
 unfolding pair_up rle_of ranged_of kind_of standard_rule head_fault block_fault kind_events blocks_from course_of start held_over
     fault_of next_block opened in_block in_packet passed summed_on summary_from lone_of shown_by settled settled_events next
     events_at after shows kind_then

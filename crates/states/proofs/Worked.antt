@@ -1,11 +1,11 @@
 -- The steps and a call by computation: beside the definition on the bytes of a packet with a block of each kind, given
 -- at once and cut at many places, and on states that no call gives.
+use Rattle.std.specs.Prelude.{Ok, Err}
 use Prim.Native.Nat.{ℕ}
 use mathlib.Core.Path.{◌≡◌, refl}
 use mathlib.Core.List.{List, [], ◌∷◌}
 use lib.ListN.{take}
 use Rattle.def_refusals.specs.declared.Refusal.TheVariants.{BadBlockLength, PastEnd}
-use Rattle.def_refusals.specs.declared.Checked.TheVariants.{Fine, Unfit}
 use Rattle.def_wire.specs.Bytes.{pair_up}
 use Rattle.def_wire.specs.Block.{rle_of, ranged_of, kind_of, standard_rule, has, clear_rule}
 use Rattle.def_standard.specs.Chunks.{values_in}
@@ -164,11 +164,11 @@ none-taken : after (state word 0 5 0 0 (known 0 0 0 0 0)) (1 ∷ 2 ∷ []) ≡ s
 unfolding after next
 none-taken = refl
 
-past : past_of (state word 2 0 0 0 (known 0 0 0 0 0)) (1 ∷ []) ≡ Unfit (PastEnd 0 1)
+past : past_of (state word 2 0 0 0 (known 0 0 0 0 0)) (1 ∷ []) ≡ Err (PastEnd 0 1)
 unfolding past_of announced_by taken_in
 past = refl
 
-not-past : past_of (state word 2 0 0 0 (known 0 0 0 0 0)) [] ≡ Fine
+not-past : past_of (state word 2 0 0 0 (known 0 0 0 0 0)) [] ≡ Ok tt
 unfolding past_of announced_by taken_in
 not-past = refl
 
@@ -177,29 +177,29 @@ abbrev complete : ℕ → ℕ → Portions
 complete item held = state item 0 held 4 0 (known 28 16777220 0 10 4)
 
 -- a word that is a run of no length: 7 with the block's length
-lost-run : fault_of (complete word 16384) ≡ Unfit (BadBlockLength 12 20)
+lost-run : fault_of (complete word 16384) ≡ Err (BadBlockLength 12 20)
 unfolding fault_of has clear_rule
 lost-run = refl
 
 -- what was held before its two bytes does not count
-lost-run-low : fault_of (complete word 81920) ≡ Unfit (BadBlockLength 12 20)
+lost-run-low : fault_of (complete word 81920) ≡ Err (BadBlockLength 12 20)
 unfolding fault_of has clear_rule
 lost-run-low = refl
 
 -- its neighbours, its bytes the other way round, and a time of the same number
-below : fault_of (complete word 16383) ≡ Fine
+below : fault_of (complete word 16383) ≡ Ok tt
 unfolding fault_of has clear_rule
 below = refl
 
-above : fault_of (complete word 16385) ≡ Fine
+above : fault_of (complete word 16385) ≡ Ok tt
 unfolding fault_of has clear_rule
 above = refl
 
-swapped : fault_of (complete word 64) ≡ Fine
+swapped : fault_of (complete word 64) ≡ Ok tt
 unfolding fault_of has clear_rule
 swapped = refl
 
-of-time : fault_of (complete time 16384) ≡ Fine
+of-time : fault_of (complete time 16384) ≡ Ok tt
 unfolding fault_of has clear_rule
 of-time = refl
 
@@ -212,7 +212,7 @@ lost-events : settled_events (complete word 16384) ≡ []
 unfolding settled_events has clear_rule
 lost-events = refl
 
-lost-again : fault_of (after (complete word 16384) (64 ∷ 1 ∷ [])) ≡ Unfit (BadBlockLength 12 20)
+lost-again : fault_of (after (complete word 16384) (64 ∷ 1 ∷ [])) ≡ Err (BadBlockLength 12 20)
 unfolding fault_of after next has clear_rule
 lost-again = refl
 
@@ -246,7 +246,7 @@ lost-whole = refl
 lost-course : course_of lost
     ≡ course
     (Header 28 1 ∷ RangedStart 1 20 (record { ssrc = 7; begin = 10; end = 20; thinning = 0 }) ∷ Number 10 ∷ Number 11
-    ∷ []) (Unfit (BadBlockLength 12 20))
+    ∷ []) (Err (BadBlockLength 12 20))
 unfolding pair_up rle_of ranged_of kind_of standard_rule values_in ahead_of range_of offset_of inside number_of values_of
     numbers_from pairs_from echoes_of head_fault block_fault kind_events blocks_from course_of ceil_div inside_count along start
     held_over fault_of next_block opened in_block in_packet ranged passed lone_of shown_by settled settled_events next events_at

@@ -6,12 +6,11 @@
 --     shown_by          the events of a complete item, but for the packet's end: a word's, or lone_of, at most one
 --     next, events_at   the state after a byte, and the byte's events
 --     after, shows     the same of a list of bytes
+use Rattle.std.specs.Prelude.{Option, Ok, Err, Some, None}
 use Rattle.std.specs.Prelude.{ℕ, ◌+◌, ◌*◌, ◌-◌, ◌/◌, ◌%◌, cond, List, [], ◌∷◌, ◌++◌, map, length, take, eqb}
-use Rattle.def_refusals.specs.declared.Checked.{Checked}
-use Rattle.def_refusals.specs.declared.Checked.TheVariants.{Fine, Unfit}
+use Rattle.def_refusals.specs.Answers.{Or}
+use Rattle.def_wire.specs.declared.Kind.{Kind}
 use Rattle.def_wire.specs.declared.Kind.TheVariants.{Spans, Clock, Echoes, Statistics}
-use Rattle.def_wire.specs.declared.KindOr.{KindOr}
-use Rattle.def_wire.specs.declared.KindOr.TheVariants.{AKind, NoKind}
 use Rattle.def_wire.specs.declared.Fields.{Fields}
 use Rattle.def_wire.specs.declared.Sums.{Sums}
 use Rattle.def_wire.specs.declared.Summary.{Summary}
@@ -33,8 +32,6 @@ use Rattle.ones.specs.Along.{along}
 use Rattle.states.specs.declared.Kept.{Kept}
 use Rattle.states.specs.declared.Known.{Known}
 use Rattle.states.specs.declared.Portions.{Portions}
-use Rattle.states.specs.declared.Lone.{Lone}
-use Rattle.states.specs.declared.Lone.TheVariants.{One, Nothing}
 use Rattle.states.specs.declared.Settled.{Settled}
 
 -- the items
@@ -123,22 +120,22 @@ abbrev pub high32 : ℕ → ℕ
 high32 h = h / 4294967296 % 4294967296
 
 -- the length that four header bytes announce, where they are good; else 0
-abbrev pub where_fine : Checked → ℕ → ℕ
-where_fine Fine n = n
-where_fine (Unfit x) n = 0
+abbrev pub where_fine : Or (Unit {0}) → ℕ → ℕ
+where_fine (Ok _) n = n
+where_fine (Err x) n = 0
 
 abbrev pub good_length : List ℕ → ℕ
 good_length v = where_fine (head_fault v) (announced_of v)
 
 -- of a complete item: the packet's first four bytes, a block's, or a word that is a run of no length
-abbrev pub item_fault : Portions → Checked
+abbrev pub item_fault : Portions → Or (Unit {0})
 item_fault st =
     cond (eqb st.item head) (head_fault (four (low32 st.held)))
     (cond (eqb st.item block) (block_fault (st.behind + 4) (four (low32 st.held)))
-    (cond (eqb st.item word) (clear_rule (block_length (four st.known.block)) (low16 st.held ∷ [])) Fine))
+    (cond (eqb st.item word) (clear_rule (block_length (four st.known.block)) (low16 st.held ∷ [])) (Ok tt)))
 
-unfoldable pub fault_of : Portions → Checked
-fault_of st = cond (eqb st.missing 0) (item_fault st) Fine
+unfoldable pub fault_of : Portions → Or (Unit {0})
+fault_of st = cond (eqb st.missing 0) (item_fault st) (Ok tt)
 
 -- behind a block: the next one's first four bytes, or the end; of a block nothing is kept behind it
 unfoldable pub next_block : Known → ℕ → Portions
@@ -151,12 +148,12 @@ unfoldable pub opened : Known → ℕ → ℕ → ℕ → ℕ → Portions
 opened k rest behind item size = cond (eqb rest 0) (next_block k behind) (state item size 0 (rest - size) behind k)
 
 -- behind a block's first four bytes w: by its kind
-abbrev pub opened_by : KindOr → Known → ℕ → ℕ → Portions
-opened_by (AKind (Spans g)) k rest behind = opened k rest behind fields 8
-opened_by (AKind Clock) k rest behind = opened k rest behind clock 8
-opened_by (AKind Echoes) k rest behind = opened k rest behind whose 4
-opened_by (AKind Statistics) k rest behind = opened k rest behind sums 8
-opened_by NoKind k rest behind = opened k rest behind skipped rest
+abbrev pub opened_by : Option Kind → Known → ℕ → ℕ → Portions
+opened_by (Some (Spans g)) k rest behind = opened k rest behind fields 8
+opened_by (Some Clock) k rest behind = opened k rest behind clock 8
+opened_by (Some Echoes) k rest behind = opened k rest behind whose 4
+opened_by (Some Statistics) k rest behind = opened k rest behind sums 8
+opened_by None k rest behind = opened k rest behind skipped rest
 
 unfoldable pub in_block : ℕ → ℕ → ℕ → Portions
 in_block announced behind w =
@@ -233,12 +230,12 @@ passed st =
     (opened st.known st.rest st.behind skipped st.rest)))))))))
 
 -- the event of a complete item that has at most one: all but words
-abbrev pub start_in : KindOr → ℕ → Lone
-start_in (AKind (Spans g)) w = Nothing
-start_in (AKind Clock) w = One (Start (type_of (four w)) (block_length (four w)))
-start_in (AKind Echoes) w = One (Start (type_of (four w)) (block_length (four w)))
-start_in (AKind Statistics) w = One (Start (type_of (four w)) (block_length (four w)))
-start_in NoKind w = One (Start (type_of (four w)) (block_length (four w)))
+abbrev pub start_in : Option Kind → ℕ → Option Event
+start_in (Some (Spans g)) w = None
+start_in (Some Clock) w = Some (Start (type_of (four w)) (block_length (four w)))
+start_in (Some Echoes) w = Some (Start (type_of (four w)) (block_length (four w)))
+start_in (Some Statistics) w = Some (Start (type_of (four w)) (block_length (four w)))
+start_in None w = Some (Start (type_of (four w)) (block_length (four w)))
 
 abbrev pub ranged_in : Known → ℕ → Event
 ranged_in k h = RangedStart (type_in k) (block_length (four k.block)) (fields_in k h)
@@ -246,20 +243,20 @@ ranged_in k h = RangedStart (type_in k) (block_length (four k.block)) (fields_in
 abbrev pub entry_in : Known → ℕ → Event
 entry_in k h = Entry (record { ssrc = k.whose; last = record { 0 = high32 h }; delay = record { 0 = low32 h } })
 
-unfoldable pub lone_of : Portions → Lone
+unfoldable pub lone_of : Portions → Option Event
 lone_of st =
-    cond (eqb st.item sender) (One (Header st.known.announced (low32 st.held)))
+    cond (eqb st.item sender) (Some (Header st.known.announced (low32 st.held)))
     (cond (eqb st.item block) (start_in (kind_of (type_of (four (low32 st.held)))) (low32 st.held))
-    (cond (eqb st.item fields) (One (ranged_in st.known st.held))
+    (cond (eqb st.item fields) (Some (ranged_in st.known st.held))
     (cond (eqb st.item time)
-    (cond (eqb st.known.inside 0) Nothing (One (Pair (receipt st.known.next (low32 st.held)))))
-    (cond (eqb st.item echo) (One (entry_in st.known st.held))
-    (cond (eqb st.item clock) (One (Time (record { 0 = st.held })))
-    (cond (eqb st.item hops) (One (Summed (summary_in st.known st.held))) Nothing))))))
+    (cond (eqb st.known.inside 0) None (Some (Pair (receipt st.known.next (low32 st.held)))))
+    (cond (eqb st.item echo) (Some (entry_in st.known st.held))
+    (cond (eqb st.item clock) (Some (Time (record { 0 = st.held })))
+    (cond (eqb st.item hops) (Some (Summed (summary_in st.known st.held))) None))))))
 
-abbrev pub list_of : Lone → List Event
-list_of (One e) = e ∷ []
-list_of Nothing = []
+abbrev pub list_of : Option Event → List Event
+list_of (Some e) = e ∷ []
+list_of None = []
 
 -- a word's numbers: of its ones, as far as they are inside
 abbrev pub numbers_in : Known → ℕ → List ℕ
@@ -274,13 +271,13 @@ abbrev pub end_in : Portions → List Event
 end_in st = cond (eqb st.item over) (End ∷ []) []
 
 -- a complete item that shows a refusal stays at hand; any other is passed
-abbrev pub passed_on : Checked → Portions → Portions
-passed_on Fine st = passed st
-passed_on (Unfit x) st = st
+abbrev pub passed_on : Or (Unit {0}) → Portions → Portions
+passed_on (Ok _) st = passed st
+passed_on (Err x) st = st
 
-abbrev pub shown_on : Checked → Portions → List Event
-shown_on Fine st = shown_by st ++ end_in (passed st)
-shown_on (Unfit x) st = []
+abbrev pub shown_on : Or (Unit {0}) → Portions → List Event
+shown_on (Ok _) st = shown_by st ++ end_in (passed st)
+shown_on (Err x) st = []
 
 -- an item, where it is complete
 unfoldable pub settled : Portions → Portions

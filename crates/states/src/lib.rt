@@ -4,10 +4,10 @@
 // Definitions only: see specs/.
 #![tactic(auto)]
 
-use def_portions::Event;
-use def_refusals::Checked;
+use def_refusals::Refusal;
 
-// The items, in the order in which a packet can have them.
+// The items, in the order in which a packet can have them. Numbers and no enum: C holds the state (xr_portions), with
+// the item as a byte, and may hand in any.
 pub const HEAD: u8 = 0;
 
 pub const SENDER: u8 = 1;
@@ -77,13 +77,6 @@ pub struct Portions {
     pub item: u8,
 }
 
-// The event of a complete item that has at most one.
-#[derive(Clone, Copy)]
-pub enum Lone {
-    One(Event),
-    Nothing,
-}
-
 // The state behind an item that may be complete, and how many events it shows.
 #[derive(Clone, Copy)]
 pub struct Settled {
@@ -98,5 +91,5 @@ pub struct Followed {
     pub state: Portions,
     pub taken: usize,
     pub events: usize,
-    pub refusal: Checked,
+    pub refusal: Result<(), Refusal>,
 }

@@ -1,12 +1,10 @@
 -- What a summary's flags and numbers show is the summary again. Assumes nothing.
 --     summary-back     `summary_from` of `flags_of` and `sums_of`
+use Rattle.std.specs.Prelude.{Option, Some, None}
 use Prim.Native.Nat.{ℕ, ◌+◌, ◌*◌, ◌/◌, ◌%◌, ◌≤◌}
 use mathlib.Core.Path.{◌≡◌, refl}
 use native.Mathlib.Omega.{arith}
-use Rattle.def_wire.specs.declared.CountOr.{CountOr}
-use Rattle.def_wire.specs.declared.CountOr.TheVariants.{Counted, Uncounted}
-use Rattle.def_wire.specs.declared.JitterOr.{JitterOr}
-use Rattle.def_wire.specs.declared.JitterOr.TheVariants.{Jitter, NoJitter}
+use Rattle.def_wire.specs.declared.Spread.{Spread}
 use Rattle.def_wire.specs.declared.HopsOr.{HopsOr}
 use Rattle.def_wire.specs.declared.HopsOr.TheVariants.{NoHops, Ttl, HopLimit, Unknown}
 use Rattle.def_wire.specs.declared.Summary.{Summary}
@@ -17,29 +15,29 @@ low_digit : (x f : ℕ) → f ≤ 1 → (2 * x + f) % 2 ≡ f
 low_digit x f h = omega arith
 
 -- each flag is its bit or nothing
-abbrev bit_of : CountOr → ℕ
-bit_of (Counted n) = 1
-bit_of Uncounted = 0
+abbrev bit_of : Option ℕ → ℕ
+bit_of (Some n) = 1
+bit_of None = 0
 
-flag-bit : (bit : ℕ) (c : CountOr) → count_flag bit c ≡ bit * bit_of c
-flag-bit bit (Counted n) = omega arith
-flag-bit bit Uncounted = omega arith
+flag-bit : (bit : ℕ) (c : Option ℕ) → count_flag bit c ≡ bit * bit_of c
+flag-bit bit (Some n) = omega arith
+flag-bit bit None = omega arith
 
-bit-small : (c : CountOr) → bit_of c ≤ 1
-bit-small (Counted n) = omega arith
-bit-small Uncounted = omega arith
+bit-small : (c : Option ℕ) → bit_of c ≤ 1
+bit-small (Some n) = omega arith
+bit-small None = omega arith
 
-abbrev jitter_bit : JitterOr → ℕ
-jitter_bit (Jitter x) = 1
-jitter_bit NoJitter = 0
+abbrev jitter_bit : Option Spread → ℕ
+jitter_bit (Some x) = 1
+jitter_bit None = 0
 
-jitter-flag : (j : JitterOr) → jitter_flag j ≡ 32 * jitter_bit j
-jitter-flag (Jitter x) = refl
-jitter-flag NoJitter = refl
+jitter-flag : (j : Option Spread) → jitter_flag j ≡ 32 * jitter_bit j
+jitter-flag (Some x) = refl
+jitter-flag None = refl
 
-jitter-small : (j : JitterOr) → jitter_bit j ≤ 1
-jitter-small (Jitter x) = omega arith
-jitter-small NoJitter = omega arith
+jitter-small : (j : Option Spread) → jitter_bit j ≤ 1
+jitter-small (Some x) = omega arith
+jitter-small None = omega arith
 
 toh-small : (h : HopsOr) → toh_of h ≤ 3
 toh-small NoHops = omega arith
@@ -48,13 +46,13 @@ toh-small (HopLimit x) = omega arith
 toh-small Unknown = omega arith
 
 -- and is found again, whatever stands above and below it
-count-back : (bit n : ℕ) (c : CountOr) → n / bit % 2 ≡ bit_of c → count_if (is_set bit n) (given_of c) ≡ c
-count-back bit n (Counted x) e = rw e
-count-back bit n Uncounted e = rw e
+count-back : (bit n : ℕ) (c : Option ℕ) → n / bit % 2 ≡ bit_of c → count_if (is_set bit n) (given_of c) ≡ c
+count-back bit n (Some x) e = rw e
+count-back bit n None e = rw e
 
-jitter-back : (n : ℕ) (j : JitterOr) → n / 32 % 2 ≡ jitter_bit j → jitter_if (is_set 32 n) (jitter_of j) ≡ j
-jitter-back n (Jitter x) e = rw e
-jitter-back n NoJitter e = rw e
+jitter-back : (n : ℕ) (j : Option Spread) → n / 32 % 2 ≡ jitter_bit j → jitter_if (is_set 32 n) (jitter_of j) ≡ j
+jitter-back n (Some x) e = rw e
+jitter-back n None e = rw e
 
 hops-back : (n : ℕ) (h : HopsOr) → toh_in n ≡ toh_of h → hops_by (toh_in n) (hops_of h) ≡ h
 hops-back n NoHops e = rw e

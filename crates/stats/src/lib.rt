@@ -2,47 +2,21 @@
 // of them, and back.
 #![tactic(auto)]
 
-ghost use Rattle.std.specs.Prelude.{◌≡◌, ◌≤◌};
-ghost use Rattle.def_wire.specs.Summary.{count_if, jitter_if, hops_by, summary_from, count_flag, jitter_flag, toh_of, flags_of};
-ghost use Rattle.def_wire.specs.Summary.{is_set, given_of, jitter_of, hops_of, sums_of};
+ghost use Rattle.std.specs.Prelude.{◌≡◌, ◌≤◌, cond, is_some};
+ghost use Rattle.def_wire.specs.Summary.{hops_by, summary_from, toh_of, flags_of, is_set, hops_of, sums_of};
 
-use def_wire::{ByteSpread, CountOr, HopsOr, JitterOr, Spread, Summary, Sums};
-
-// A number, where its flag is set.
-fn count_if(set: bool, n: u32) -> CountOr
-    ensures { result ≡ count_if set n }
-{
-    let absent = CountOr::Uncounted;
-    if set {
-        return CountOr::Counted(n);
-    }
-    absent
-}
-
-fn jitter_if(set: bool, x: Spread) -> JitterOr
-    ensures { result ≡ jitter_if set x }
-{
-    let absent = JitterOr::NoJitter;
-    if set {
-        return JitterOr::Jitter(x);
-    }
-    absent
-}
+use def_wire::{ByteSpread, HopsOr, Spread, Summary, Sums};
 
 // By ToH.
 fn hops_by(toh: u8, x: ByteSpread) -> HopsOr
     ensures { result ≡ hops_by toh x }
 {
-    if toh == 0 {
-        return HopsOr::NoHops;
+    match toh {
+        0 => HopsOr::NoHops,
+        1 => HopsOr::Ttl(x),
+        2 => HopsOr::HopLimit(x),
+        _ => HopsOr::Unknown,
     }
-    if toh == 1 {
-        return HopsOr::Ttl(x);
-    }
-    if toh != 2 {
-        return HopsOr::Unknown;
-    }
-    HopsOr::HopLimit(x)
 }
 
 // Whether a flag is set.
@@ -53,40 +27,27 @@ fn is_set(bit: u8, flags: u8) -> bool
     flags / bit % 2 == 1
 }
 
-// What is shown of a block's numbers, by its specific byte.
+// What is shown of a block's numbers, by its specific byte: a number whose flag is clear is none, which is another answer
+// than 0.
 pub fn summary_from(flags: u8, n: Sums) -> Summary
     ensures { result ≡ summary_from flags n }
 {
-    let jitter = n.jitter;
-    let hops = n.hops;
     Summary {
         ssrc: n.ssrc,
         begin: n.begin,
         end: n.end,
-        lost: count_if(is_set(128, flags), n.lost),
-        duplicates: count_if(is_set(64, flags), n.duplicates),
-        jitter: jitter_if(is_set(32, flags), jitter),
-        hops: hops_by(flags / 8 % 4, hops),
+        lost: is_set(128, flags).then_some(n.lost),
+        duplicates: is_set(64, flags).then_some(n.duplicates),
+        jitter: is_set(32, flags).then_some(n.jitter),
+        hops: hops_by(flags / 8 % 4, n.hops),
     }
 }
 
-// The flag of a number that is there.
-fn count_flag(bit: u8, c: CountOr) -> u8
-    ensures { (result ≡ count_flag bit c) × (result ≤ bit) }
+// The flag of what is there.
+fn flag<T: Copy>(bit: u8, x: Option<T>) -> u8
+    ensures { (result ≡ cond (is_some x) bit 0) × (result ≤ bit) }
 {
-    match c {
-        CountOr::Counted(_) => bit,
-        CountOr::Uncounted => 0,
-    }
-}
-
-fn jitter_flag(j: JitterOr) -> u8
-    ensures { (result ≡ jitter_flag j) × (result ≤ 32) }
-{
-    match j {
-        JitterOr::Jitter(_) => 32,
-        JitterOr::NoJitter => 0,
-    }
+    if x.is_some() { bit } else { 0 }
 }
 
 // ToH, 0 to 3.
@@ -105,36 +66,16 @@ pub fn toh_of(h: HopsOr) -> u8
 pub fn flags_of(s: Summary) -> u8
     ensures { result ≡ flags_of s }
 {
-    let lost = s.lost;
-    let duplicates = s.duplicates;
-    let jitter = s.jitter;
-    let hops = s.hops;
-    count_flag(128, lost) + count_flag(64, duplicates) + jitter_flag(jitter) + toh_of(hops) * 8
+    flag(128, s.lost) + flag(64, s.duplicates) + flag(32, s.jitter) + toh_of(s.hops) * 8
 }
 
-// A number, 0 where it is absent.
-fn given_of(c: CountOr) -> u32
-    ensures { result ≡ given_of c }
-{
-    match c {
-        CountOr::Counted(n) => n,
-        CountOr::Uncounted => 0,
-    }
-}
-
-fn jitter_of(j: JitterOr) -> Spread
-    ensures { result ≡ jitter_of j }
-{
-    match j {
-        JitterOr::Jitter(x) => x,
-        JitterOr::NoJitter => Spread {
-            least: 0,
-            most: 0,
-            mean: 0,
-            deviation: 0,
-        },
-    }
-}
+// Four numbers that are absent.
+const NO_JITTER: Spread = Spread {
+    least: 0,
+    most: 0,
+    mean: 0,
+    deviation: 0,
+};
 
 fn no_hops() -> ByteSpread
     ensures { result ≡ Rattle.def_wire.specs.Summary.byte_spread 0 0 0 0 }
@@ -162,17 +103,13 @@ fn hops_of(h: HopsOr) -> ByteSpread
 pub fn sums_of(s: Summary) -> Sums
     ensures { result ≡ sums_of s }
 {
-    let lost = s.lost;
-    let duplicates = s.duplicates;
-    let jitter = s.jitter;
-    let hops = s.hops;
     Sums {
         ssrc: s.ssrc,
         begin: s.begin,
         end: s.end,
-        lost: given_of(lost),
-        duplicates: given_of(duplicates),
-        jitter: jitter_of(jitter),
-        hops: hops_of(hops),
+        lost: s.lost.unwrap_or(0),
+        duplicates: s.duplicates.unwrap_or(0),
+        jitter: s.jitter.unwrap_or(NO_JITTER),
+        hops: hops_of(s.hops),
     }
 }

@@ -1,4 +1,5 @@
 -- The events of a complete item, and how many they are: the one place that unfolds `shown_by`. Assumes nothing.
+use Rattle.std.specs.Prelude.{Option, Some, None}
 use Prim.Native.Nat.{ℕ, ◌≤◌}
 use mathlib.Core.Path.{◌≡◌}
 use mathlib.Core.List.{map}
@@ -6,6 +7,7 @@ use native.Mathlib.Omega.{arith}
 use lib.ListN.{length, take, length-map, length-take}
 use lib.Dec.{eqb}
 use borrow.Author.Tests.{eq-eqb, ne_eqb}
+use Rattle.def_portions.specs.declared.Event.{Event}
 use Rattle.laws.proofs.Tests.{either}
 use Rattle.def_standard.specs.Chunks.{values_in}
 use Rattle.def_portions.specs.declared.Event.TheVariants.{Number}
@@ -16,8 +18,6 @@ use Rattle.ones.proofs.ListingLaws.{length-along-le}
 use Rattle.ones.proofs.WordLaws.{length-ones}
 use Rattle.states.specs.declared.Known.{Known}
 use Rattle.states.specs.declared.Portions.{Portions}
-use Rattle.states.specs.declared.Lone.{Lone}
-use Rattle.states.specs.declared.Lone.TheVariants.{One, Nothing}
 use Rattle.states.specs.Steps.{word, low16, thinning_in, numbers_in, shown_by, lone_of, list_of}
 
 module _ (st : Portions) where
@@ -26,7 +26,7 @@ module _ (st : Portions) where
   unfolding shown_by
   shown-word e = rw (eq-eqb _ _ e)
 
-  pub shown-lone : (x : Lone) → (st.item ≡ word → ⊥) → lone_of st ≡ x → shown_by st ≡ list_of x
+  pub shown-lone : (x : Option Event) → (st.item ≡ word → ⊥) → lone_of st ≡ x → shown_by st ≡ list_of x
   unfolding shown_by
   shown-lone x n e = rw (ne_eqb _ _ n, e)
 
@@ -38,7 +38,7 @@ module _ (st : Portions) where
       rw (shown-word e, length-map)
       (length-ones (step_of (thinning_in k)) k.next k.inside (low16 st.held))
 
-  pub weight-lone : (x : Lone) → (st.item ≡ word → ⊥) → lone_of st ≡ x → length (list_of x) ≡ length (shown_by st)
+  pub weight-lone : (x : Option Event) → (st.item ≡ word → ⊥) → lone_of st ≡ x → length (list_of x) ≡ length (shown_by st)
   weight-lone x n e = rw (shown-lone x n e)
 
 -- a word covers at most 16,383 positions
@@ -52,9 +52,9 @@ numbers-most k w = let l = take k.inside (values_in w) in
       covers-lt w,
     )
 
-lone-most : (x : Lone) → length (list_of x) ≤ 16383
-lone-most (One e) = omega arith
-lone-most Nothing = omega arith
+lone-most : (x : Option Event) → length (list_of x) ≤ 16383
+lone-most (Some e) = omega arith
+lone-most None = omega arith
 
 pub weight-most : (st : Portions) → length (shown_by st) ≤ 16383
 unfolding shown_by

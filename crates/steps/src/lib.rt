@@ -3,7 +3,6 @@
 #![tactic(auto)]
 
 ghost use Rattle.std.specs.Prelude.{◌≡◌, ◌+◌, ◌≤◌, length, leb};
-ghost use Rattle.def_refusals.specs.Answers.{then_check};
 ghost use Rattle.def_wire.specs.Bytes.{four};
 ghost use Rattle.def_wire.specs.Packet.{part};
 ghost use Rattle.def_wire.specs.Block.{type_of, specific_of, block_length, kind_of};
@@ -16,12 +15,10 @@ ghost use Rattle.states.specs.Steps.{summed_on, sums_in};
 ghost use Rattle.states.specs.Steps.{low16 as low16_of, low32 as low32_of, high32 as high32_of};
 
 use def_portions::Event;
-use def_refusals::{Checked, Refusal};
+use def_refusals::Refusal;
 use def_standard::{Echo, Receipt};
-use def_wire::{
-    ByteSpread, Fields, Kind, KindOr, LongTime, ReceiptTime, ShortTime, Spread, Summary, Sums,
-};
-use states::{Kept, Known, Lone, Portions, Settled};
+use def_wire::{ByteSpread, Fields, Kind, LongTime, ReceiptTime, ShortTime, Spread, Summary, Sums};
+use states::{Kept, Known, Portions, Settled};
 
 // Nothing of a summary.
 fn nothing() -> Kept
@@ -103,24 +100,24 @@ pub fn thinning_of(k: Known) -> u8
 
 // What the packet's first four bytes show: 1, 2, 3, 18.
 #[tactic(auto, unfolding(def_portions::specs::Events::head_fault))]
-fn head_fault(w: u32) -> Checked
+fn head_fault(w: u32) -> Result<(), Refusal>
     ensures { result ≡ head_fault (four w) }
 {
     let l = length_of(w) as usize;
     if l < 8 {
-        return Checked::Unfit(Refusal::TooShort(8, l));
+        return Err(Refusal::TooShort(8, l));
     }
     let first = first_byte(w);
     if first / 64 != 2 {
-        return Checked::Unfit(Refusal::WrongVersion);
+        return Err(Refusal::WrongVersion);
     }
     if second_byte(w) != 207 {
-        return Checked::Unfit(Refusal::WrongPacketType);
+        return Err(Refusal::WrongPacketType);
     }
     if first / 32 % 2 == 1 {
-        return Checked::Unfit(Refusal::Padded);
+        return Err(Refusal::Padded);
     }
-    Checked::Fine
+    Ok(())
 }
 
 // The length that the packet's first four bytes announce, where they are good; else 0.
@@ -128,28 +125,28 @@ pub fn good_length(w: u32) -> usize
     ensures { result ≡ good_length (four w) }
 {
     match head_fault(w) {
-        Checked::Fine => length_of(w) as usize,
-        Checked::Unfit(_) => 0,
+        Ok(()) => length_of(w) as usize,
+        Err(_) => 0,
     }
 }
 
 // A length rule: it holds, or 7.
-fn rule(ok: bool, expected: usize, actual: usize) -> Checked
+fn rule(ok: bool, expected: usize, actual: usize) -> Result<(), Refusal>
     ensures { result ≡ Rattle.def_wire.specs.Block.rule ok expected actual }
 {
     if ok {
-        return Checked::Fine;
+        return Ok(());
     }
-    Checked::Unfit(Refusal::BadBlockLength(expected, actual))
+    Err(Refusal::BadBlockLength(expected, actual))
 }
 
 // The standard's length rule of a type: 7.
-fn rule_of(t: u8, length: u32) -> Checked
+fn rule_of(t: u8, length: u32) -> Result<(), Refusal>
     ensures { result ≡ rule_of (kind_of t) length }
 {
     let l = length as usize;
     match records::kind_of(t) {
-        KindOr::AKind(k) => match k {
+        Some(k) => match k {
             Kind::Spans(_) => rule(12 <= l, 12, l),
             Kind::Clock => rule(l == 12, 12, l),
             Kind::Echoes => {
@@ -158,47 +155,36 @@ fn rule_of(t: u8, length: u32) -> Checked
             }
             Kind::Statistics => rule(l == 40, 40, l),
         },
-        KindOr::NoKind => Checked::Fine,
+        None => Ok(()),
     }
 }
 
 // 6: a block is longer than what is left for blocks, of which so many bytes are behind its first four.
-fn too_long(l: usize, behind: usize) -> Checked
+fn too_long(l: usize, behind: usize) -> Result<(), Refusal>
     requires { 4 ≤ l }
     ensures { result ≡ need (leb l (behind + 4)) (Refusal.BlockTooLong l (behind + 4)) }
 {
     if behind < l - 4 {
-        return Checked::Unfit(Refusal::BlockTooLong(l, behind + 4));
+        return Err(Refusal::BlockTooLong(l, behind + 4));
     }
-    Checked::Fine
-}
-
-// The second check, where the first is fine.
-fn then_check(first: Checked, second: Checked) -> Checked
-    ensures { result ≡ then_check first second }
-{
-    match first {
-        Checked::Fine => second,
-        Checked::Unfit(x) => Checked::Unfit(x),
-    }
+    Ok(())
 }
 
 // What a block's first four bytes show, with so many bytes of the packet behind them: 6, 7.
-pub fn block_fault(behind: usize, w: u32) -> Checked
+pub fn block_fault(behind: usize, w: u32) -> Result<(), Refusal>
     ensures { result ≡ block_fault (behind + 4) (four w) }
 {
     let length = length_of(w);
-    let long = too_long(length as usize, behind);
-    let unfit = rule_of(first_byte(w), length);
-    then_check(long, unfit)
+    too_long(length as usize, behind)?;
+    rule_of(first_byte(w), length)
 }
 
 // The refusal that the item at hand shows, where it is complete: such an item stays at hand.
-pub fn fault(st: Portions) -> Checked
+pub fn fault(st: Portions) -> Result<(), Refusal>
     ensures { result ≡ fault_of st }
 {
     if st.missing != 0 {
-        return Checked::Fine;
+        return Ok(());
     }
     if st.item == states::HEAD {
         return head_fault(low32(st.held));
@@ -211,7 +197,7 @@ pub fn fault(st: Portions) -> Checked
         let l = length_of(k.block) as usize;
         return rule(low16(st.held) != 0x4000, 12, l);
     }
-    Checked::Fine
+    Ok(())
 }
 
 // Behind a block: the next one's first four bytes, or the packet's end. Of a block nothing is kept behind it.
@@ -278,13 +264,13 @@ fn in_block(announced: u32, behind: usize, w: u32) -> Portions
     let rest = length_of(w) as usize - 4;
     let left = utils::above(behind, rest);
     match records::kind_of(first_byte(w)) {
-        KindOr::AKind(kind) => match kind {
+        Some(kind) => match kind {
             Kind::Spans(_) => opened(k, rest, left, states::FIELDS, 8),
             Kind::Clock => opened(k, rest, left, states::CLOCK, 8),
             Kind::Echoes => opened(k, rest, left, states::WHOSE, 4),
             Kind::Statistics => opened(k, rest, left, states::SUMS, 8),
         },
-        KindOr::NoKind => opened(k, rest, left, states::SKIPPED, rest),
+        None => opened(k, rest, left, states::SKIPPED, rest),
     }
 }
 
@@ -475,45 +461,45 @@ pub fn passed(st: Portions) -> Portions
 }
 
 // The start that a block's first four bytes show: none for types 1 to 3, whose start is known later.
-fn start_in(w: u32) -> Lone
+fn start_in(w: u32) -> Option<Event>
     ensures { result ≡ start_in (kind_of (type_of (four w))) w }
 {
     let t = first_byte(w);
     match records::kind_of(t) {
-        KindOr::AKind(kind) => match kind {
-            Kind::Spans(_) => Lone::Nothing,
-            Kind::Clock => Lone::One(Event::Start(t, length_of(w))),
-            Kind::Echoes => Lone::One(Event::Start(t, length_of(w))),
-            Kind::Statistics => Lone::One(Event::Start(t, length_of(w))),
+        Some(kind) => match kind {
+            Kind::Spans(_) => None,
+            Kind::Clock => Some(Event::Start(t, length_of(w))),
+            Kind::Echoes => Some(Event::Start(t, length_of(w))),
+            Kind::Statistics => Some(Event::Start(t, length_of(w))),
         },
-        KindOr::NoKind => Lone::One(Event::Start(t, length_of(w))),
+        None => Some(Event::Start(t, length_of(w))),
     }
 }
 
 // The event of a complete item that is no word.
-pub fn lone(st: Portions) -> Lone
+pub fn lone(st: Portions) -> Option<Event>
     ensures { result ≡ lone_of st }
 {
     let k = st.known;
     if st.item == states::SENDER {
-        return Lone::One(Event::Header(k.announced, low32(st.held)));
+        return Some(Event::Header(k.announced, low32(st.held)));
     }
     if st.item == states::BLOCK {
         return start_in(low32(st.held));
     }
     if st.item == states::FIELDS {
         let w = k.block;
-        return Lone::One(Event::Ranged(first_byte(w), length_of(w), fields_in(k, st.held)));
+        return Some(Event::Ranged(first_byte(w), length_of(w), fields_in(k, st.held)));
     }
     if st.item == states::TIME {
         if k.inside == 0 {
-            return Lone::Nothing;
+            return None;
         }
         let r = Receipt {
             number: k.next,
             time: ReceiptTime(low32(st.held)),
         };
-        return Lone::One(Event::Pair(r));
+        return Some(Event::Pair(r));
     }
     if st.item == states::ECHO {
         let e = Echo {
@@ -521,15 +507,15 @@ pub fn lone(st: Portions) -> Lone
             last: ShortTime(high32(st.held)),
             delay: ShortTime(low32(st.held)),
         };
-        return Lone::One(Event::Entry(e));
+        return Some(Event::Entry(e));
     }
     if st.item == states::CLOCK {
-        return Lone::One(Event::Time(LongTime(st.held)));
+        return Some(Event::Time(LongTime(st.held)));
     }
     if st.item == states::HOPS {
-        return Lone::One(Event::Summed(summary_in(k, st.held)));
+        return Some(Event::Summed(summary_in(k, st.held)));
     }
-    Lone::Nothing
+    None
 }
 
 // How many events a complete item shows, the packet's end not among them.
@@ -541,8 +527,8 @@ fn weight(st: Portions) -> usize
         return chunk::ones_before(low16(st.held), k.inside);
     }
     match lone(st) {
-        Lone::One(_) => 1,
-        Lone::Nothing => 0,
+        Some(_) => 1,
+        None => 0,
     }
 }
 
@@ -557,7 +543,7 @@ pub fn settle(st: Portions) -> Settled
         };
     }
     match fault(st) {
-        Checked::Fine => {
+        Ok(()) => {
             let next = passed(st);
             let shown = weight(st);
             if next.item == states::OVER {
@@ -571,7 +557,7 @@ pub fn settle(st: Portions) -> Settled
                 events: shown,
             }
         }
-        Checked::Unfit(_) => Settled {
+        Err(_) => Settled {
             state: st,
             events: 0,
         },
@@ -588,13 +574,6 @@ fn more(item: u8, held: u64, b: u8) -> u64
     held
 }
 
-// Four bytes more at once.
-fn four_more(item: u8, held: u64, a: u8, b: u8, c: u8, d: u8) -> u64
-    ensures { result ≡ held_with item (held_with item (held_with item (held_with item held a) b) c) d }
-{
-    more(item, more(item, more(item, more(item, held, a), b), c), d)
-}
-
 // The bytes from a place on, as many as said, behind those that are held.
 fn gathered(item: u8, held: u64, x: &[u8], from: usize, m: usize) -> u64
     requires { from + m ≤ length x.now }
@@ -604,17 +583,8 @@ fn gathered(item: u8, held: u64, x: &[u8], from: usize, m: usize) -> u64
         return held;
     }
     let mut h = held;
-    let mut at = from;
-    let mut left = m;
-    while 4 <= left {
-        h = four_more(item, h, x[at], x[at + 1], x[at + 2], x[at + 3]);
-        at += 4;
-        left -= 4;
-    }
-    while left != 0 {
-        h = more(item, h, x[at]);
-        at += 1;
-        left -= 1;
+    for b in &x[from..from + m] {
+        h = more(item, h, *b);
     }
     h
 }

@@ -5,8 +5,8 @@ ghost use Rattle.std.specs.Prelude.{◌≡◌};
 ghost use Rattle.def_wire.specs.Summary.{spread, byte_spread, sums_at, summary_at, summary_of};
 ghost use Rattle.def_questions.specs.Packets.{summary_asked};
 
-use def_refusals::Checked;
-use def_wire::{ByteSpread, Located, Reading, Spread, Summary, SummaryOr, Sums};
+use def_refusals::Refusal;
+use def_wire::{ByteSpread, Reading, Spread, Summary, Sums};
 
 // The four numbers of jitter and the four bytes of TTL or hop limit, as they stand.
 fn jitter_at(v: &[u8]) -> Spread
@@ -57,21 +57,17 @@ pub fn summary_at(v: &[u8]) -> Summary
 }
 
 // What a block of type 6 shows: 10, 7; of the crate, which has no such question, always 10.
-pub fn summary(r: Reading, v: &[u8]) -> SummaryOr
+pub fn summary(r: Reading, v: &[u8]) -> Result<Summary, Refusal>
     ensures { result ≡ summary_of r v.now }
 {
-    match block::check_statistics(r, v) {
-        Checked::Fine => SummaryOr::Stated(summary_at(v)),
-        Checked::Unfit(x) => SummaryOr::NoSummary(x),
-    }
+    block::check_statistics(r, v)?;
+    Ok(summary_at(v))
 }
 
 // The same of block k of a packet: 1 to 6, 9, 10, 7.
-pub fn summary_in(r: Reading, s: &[u8], k: usize) -> SummaryOr
+pub fn summary_in(r: Reading, s: &[u8], k: usize) -> Result<Summary, Refusal>
     ensures { result ≡ summary_asked r s.now k }
 {
-    match xr::locate(r, s, k) {
-        Located::At(at, n) => summary(r, utils::part(s, at, n)),
-        Located::Missing(x) => SummaryOr::NoSummary(x),
-    }
+    let (at, n) = xr::locate(r, s, k)?;
+    summary(r, utils::part(s, at, n))
 }

@@ -6,7 +6,7 @@ ghost use Rattle.def_dump.specs.Summaries.{span_text, count_text, counts_text, j
 ghost use Rattle.def_dump.specs.Summaries.{four_text, hops_text, summary_parts};
 ghost use Rattle.def_dump.specs.Summaries.{summary_lines};
 
-use def_wire::{ByteSpread, CountOr, HopsOr, JitterOr, Summary};
+use def_wire::{ByteSpread, HopsOr, Spread, Summary};
 
 // `ssrc S begin B end E`.
 fn span(buf: &mut [u8], at: usize, s: Summary) -> usize
@@ -18,12 +18,12 @@ fn span(buf: &mut [u8], at: usize, s: Summary) -> usize
 }
 
 // A number, or ` absent`.
-fn count(buf: &mut [u8], at: usize, c: CountOr) -> usize
+fn count(buf: &mut [u8], at: usize, c: Option<u32>) -> usize
     ensures { Added buf.old at (count_text c) buf.new result }
 {
     match c {
-        CountOr::Counted(n) => print::number(buf, at, n as u64),
-        CountOr::Uncounted => print::text(buf, at, b" absent"),
+        Some(n) => print::number(buf, at, n as u64),
+        None => print::text(buf, at, b" absent"),
     }
 }
 
@@ -40,18 +40,18 @@ fn counts(buf: &mut [u8], at: usize, s: Summary) -> usize
 }
 
 // `jitter MIN MAX MEAN DEVIATION`, or `jitter absent`.
-fn jitter(buf: &mut [u8], at: usize, j: JitterOr) -> usize
+fn jitter(buf: &mut [u8], at: usize, j: Option<Spread>) -> usize
     ensures { Added buf.old at (jitter_text j) buf.new result }
 {
     match j {
-        JitterOr::Jitter(x) => {
+        Some(x) => {
             let n = print::text(buf, at, b"jitter");
             let a = print::number(buf, n, x.least as u64);
             let b = print::number(buf, a, x.most as u64);
             let c = print::number(buf, b, x.mean as u64);
             print::number(buf, c, x.deviation as u64)
         }
-        JitterOr::NoJitter => print::text(buf, at, b"jitter absent"),
+        None => print::text(buf, at, b"jitter absent"),
     }
 }
 

@@ -1,18 +1,14 @@
 -- One turn of the loops that store a body's numbers, so many bytes at a time. Assumes nothing.
---     Pieces     from each place on that has m bytes behind it, `piece` comes next, of m bytes
 --     Going      the numbers between `from` and k are stored, between `at` and n; those from k on are still to come
 use Prim.Native.Nat.{ℕ, ◌+◌, ◌-◌, ◌≤◌}
 use mathlib.Core.Path.{◌≡◌, sym, ap}
-use mathlib.Core.List.{List, [], ◌++◌}
+use mathlib.Core.List.{List, []}
 use native.Mathlib.Omega.{arith}
 use lib.ListN.{length, drop}
 use lib.Seq.{sets}
+use Rattle.little_endian.specs.Pieces.{Pieces}
 use Rattle.laws.specs.Stores.{Wrote}
 use Rattle.laws.proofs.Filling.{Storing, room_for, wrote, ended}
-
-pub record Pieces (f : List ℕ → List ℕ) (body : List ℕ) (m : ℕ) (piece : ℕ → List ℕ) : Type 0 where
-  pub next : (k : ℕ) → k + m ≤ length body → f (drop k body) ≡ piece k ++ f (drop (k + m) body)
-  pub size : (k : ℕ) → length (piece k) ≡ m
 
 pub record Going (f : List ℕ → List ℕ) (body : List ℕ) (from : ℕ) (l₀ : List ℕ) (at : ℕ) (l : List ℕ) (k n : ℕ)
     : Type 0 where

@@ -3,16 +3,18 @@
 // and a turn of the loop loads eight of them before it stores them, so that they go by one load and one store.
 #![tactic(auto)]
 
-ghost use Rattle.std.specs.Prelude.{◌≡◌, ◌+◌, ◌-◌, ◌≤◌, length, drop};
+ghost use Rattle.std.specs.Prelude.{◌≡◌, ℕ, ◌+◌, ◌≤◌, ◌<◌, List, [], length, drop};
 ghost use Rattle.std.proofs.lemmas.List.Edits.{sets};
 ghost use Rattle.def_wire.specs.Bytes.{two, four};
 ghost use Rattle.def_jobs.specs.Jobs.{le16, le32};
 ghost use Rattle.laws.specs.Stores.{Wrote};
-ghost use Rattle.laws.proofs.Filling.{Storing};
+ghost use Rattle.std.proofs.Common.{rules};
 ghost use Rattle.swap.specs.Swapped.{swapped16, swapped32, words4, numbers2};
-ghost use Rattle.swap.specs.Eights.{eight_at, bytes_in, turned2, turned4};
+ghost use Rattle.swap.specs.Eights.{eight_at};
+ghost use Rattle.little_endian.specs.Pieces.{Pieces};
+ghost use Rattle.little_endian.proofs.SwapLaws.{words, fours, numbers, pairs, swapped16-end, swapped32-end};
 
-// The 16-bit number at k.
+// The 16-bit number at k. (`copy_from_slice` of an array was tried here and below: it is slower on short lists.)
 pub fn put_word(body: &[u8], k: usize, out: &mut [u8], n: usize)
     requires { (k + 2 ≤ length body.now) × (n + 2 ≤ length out.old) }
     ensures { out.new ≡ sets out.old n (two (le16 body.now k)) }
@@ -38,79 +40,37 @@ pub fn put_number(body: &[u8], k: usize, out: &mut [u8], n: usize)
     out[n + 3] = a;
 }
 
-// Eight bytes at once, in order.
-#[derive(Drop)]
-struct Eight {
-    a: u8,
-    b: u8,
-    c: u8,
-    d: u8,
-    e: u8,
-    f: u8,
-    g: u8,
-    h: u8,
-}
-
-fn load8(body: &[u8], k: usize) -> Eight
+// The eight bytes from k on.
+fn eight_at(body: &[u8], k: usize) -> [u8; 8]
     requires { k + 8 ≤ length body.now }
     ensures { result ≡ eight_at body.now k }
 {
-    Eight {
-        a: body[k],
-        b: body[k + 1],
-        c: body[k + 2],
-        d: body[k + 3],
-        e: body[k + 4],
-        f: body[k + 5],
-        g: body[k + 6],
-        h: body[k + 7],
-    }
+    [
+        body[k],
+        body[k + 1],
+        body[k + 2],
+        body[k + 3],
+        body[k + 4],
+        body[k + 5],
+        body[k + 6],
+        body[k + 7],
+    ]
 }
 
-fn store8(out: &mut [u8], n: usize, x: Eight)
+// Stored one by one, and lent: so the compiler makes one store of them, which it does neither of `copy_from_slice` nor of
+// an array that is passed by value (both tried: three times as slow).
+fn store8(out: &mut [u8], n: usize, x: &[u8; 8])
     requires { n + 8 ≤ length out.old }
-    ensures { out.new ≡ sets out.old n (bytes_in x) }
+    ensures { out.new ≡ sets out.old n (eight_at x.now 0) }
 {
-    out[n] = x.a;
-    out[n + 1] = x.b;
-    out[n + 2] = x.c;
-    out[n + 3] = x.d;
-    out[n + 4] = x.e;
-    out[n + 5] = x.f;
-    out[n + 6] = x.g;
-    out[n + 7] = x.h;
-}
-
-// The two bytes of each of four words turned round.
-fn turn2(x: Eight) -> Eight
-    ensures { result ≡ turned2 x }
-{
-    Eight {
-        a: x.b,
-        b: x.a,
-        c: x.d,
-        d: x.c,
-        e: x.f,
-        f: x.e,
-        g: x.h,
-        h: x.g,
-    }
-}
-
-// The four bytes of each of two numbers turned round.
-fn turn4(x: Eight) -> Eight
-    ensures { result ≡ turned4 x }
-{
-    Eight {
-        a: x.d,
-        b: x.c,
-        c: x.b,
-        d: x.a,
-        e: x.h,
-        f: x.g,
-        g: x.f,
-        h: x.e,
-    }
+    out[n] = x[0];
+    out[n + 1] = x[1];
+    out[n + 2] = x[2];
+    out[n + 3] = x[3];
+    out[n + 4] = x[4];
+    out[n + 5] = x[5];
+    out[n + 6] = x[6];
+    out[n + 7] = x[7];
 }
 
 // Four 16-bit numbers from k on.
@@ -118,7 +78,8 @@ fn put_words4(body: &[u8], k: usize, out: &mut [u8], n: usize)
     requires { (k + 8 ≤ length body.now) × (n + 8 ≤ length out.old) }
     ensures { out.new ≡ sets out.old n (words4 body.now k) }
 {
-    store8(out, n, turn2(load8(body, k)));
+    let x = eight_at(body, k);
+    store8(out, n, &[x[1], x[0], x[3], x[2], x[5], x[4], x[7], x[6]]);
 }
 
 // Two 32-bit numbers from k on.
@@ -126,37 +87,117 @@ fn put_numbers2(body: &[u8], k: usize, out: &mut [u8], n: usize)
     requires { (k + 8 ≤ length body.now) × (n + 8 ≤ length out.old) }
     ensures { out.new ≡ sets out.old n (numbers2 body.now k) }
 {
-    store8(out, n, turn4(load8(body, k)));
+    let x = eight_at(body, k);
+    store8(out, n, &[x[3], x[2], x[1], x[0], x[7], x[6], x[5], x[4]]);
 }
 
-// Fours of words, as long as there are any; gives the first byte that is left.
-fn fours(body: &[u8], from: usize, out: &mut [u8], at: usize) -> usize
-    requires { (from ≤ length body.now) × (at + length (swapped16 (drop from body.now)) ≤ length out.old) }
-    ensures { (from ≤ result) × (result ≤ length body.now)
-        × Storing out.old at (swapped16 (drop from body.now)) out.new
-        (swapped16 (drop result body.now)) (at + (result - from)) }
+// A width of numbers: how a list of bytes is swapped number by number (`one`), and eight bytes at once (`eight`).
+trait Width {
+    const SIZE: usize;
+
+    ghost SIZE: { ℕ };
+
+    ghost swapped: { List ℕ → List ℕ };
+
+    ghost one: { List ℕ → ℕ → List ℕ };
+
+    ghost eight: { List ℕ → ℕ → List ℕ };
+
+    fn put_one(body: &[u8], k: usize, out: &mut [u8], n: usize)
+        requires { (k + SIZE ≤ length body.now) × (n + SIZE ≤ length out.old) }
+        ensures { out.new ≡ sets out.old n (one body.now k) };
+
+    fn put_eight(body: &[u8], k: usize, out: &mut [u8], n: usize)
+        requires { (k + 8 ≤ length body.now) × (n + 8 ≤ length out.old) }
+        ensures { out.new ≡ sets out.old n (eight body.now k) };
+
+    ghost size: { 0 < SIZE };
+
+    ghost ones: { (s : List ℕ) → Pieces swapped s SIZE (one s) };
+
+    ghost eights: { (s : List ℕ) → Pieces swapped s 8 (eight s) };
+
+    ghost ended: { (s : List ℕ) (k : ℕ) → length s < k + SIZE → swapped (drop k s) ≡ [] };
+}
+
+// Those of 16 bits.
+struct Words;
+
+impl Width for Words {
+    const SIZE: usize = 2;
+
+    ghost SIZE = { 2 };
+
+    ghost swapped = { swapped16 };
+
+    ghost one = { λ s k. two (le16 s k) };
+
+    ghost eight = { words4 };
+
+    fn put_one(body: &[u8], k: usize, out: &mut [u8], n: usize) {
+        put_word(body, k, out, n);
+    }
+
+    fn put_eight(body: &[u8], k: usize, out: &mut [u8], n: usize) {
+        put_words4(body, k, out, n);
+    }
+
+    ghost size = { Prim.search rules };
+
+    ghost ones = { words };
+
+    ghost eights = { fours };
+
+    ghost ended = { swapped16-end };
+}
+
+// Those of 32 bits.
+struct Numbers;
+
+impl Width for Numbers {
+    const SIZE: usize = 4;
+
+    ghost SIZE = { 4 };
+
+    ghost swapped = { swapped32 };
+
+    ghost one = { λ s k. four (le32 s k) };
+
+    ghost eight = { numbers2 };
+
+    fn put_one(body: &[u8], k: usize, out: &mut [u8], n: usize) {
+        put_number(body, k, out, n);
+    }
+
+    fn put_eight(body: &[u8], k: usize, out: &mut [u8], n: usize) {
+        put_numbers2(body, k, out, n);
+    }
+
+    ghost size = { Prim.search rules };
+
+    ghost ones = { numbers };
+
+    ghost eights = { pairs };
+
+    ghost ended = { swapped32-end };
+}
+
+// The numbers of a width in a body from a place on: eight bytes at a time, and those that are left one by one.
+fn swap<W: Width>(body: &[u8], from: usize, out: &mut [u8], at: usize) -> usize
+    requires { (from ≤ length body.now) × (at + length (W.swapped (drop from body.now)) ≤ length out.old) }
+    ensures { Wrote out.old at (W.swapped (drop from body.now)) out.new result }
 {
     let mut k = from;
     let mut n = at;
     while 8 <= body.len() - k {
-        put_words4(body, k, out, n);
+        W::put_eight(body, k, out, n);
         k += 8;
         n += 8;
     }
-    k
-}
-
-// The words that are left, one by one.
-fn ones(body: &[u8], from: usize, out: &mut [u8], at: usize) -> usize
-    requires { (from ≤ length body.now) × (at + length (swapped16 (drop from body.now)) ≤ length out.old) }
-    ensures { Wrote out.old at (swapped16 (drop from body.now)) out.new result }
-{
-    let mut k = from;
-    let mut n = at;
-    while 2 <= body.len() - k {
-        put_word(body, k, out, n);
-        k += 2;
-        n += 2;
+    while W::SIZE <= body.len() - k {
+        W::put_one(body, k, out, n);
+        k += W::SIZE;
+        n += W::SIZE;
     }
     n
 }
@@ -166,40 +207,7 @@ pub fn swap16(body: &[u8], from: usize, out: &mut [u8], at: usize) -> usize
     requires { (from ≤ length body.now) × (at + length (swapped16 (drop from body.now)) ≤ length out.old) }
     ensures { Wrote out.old at (swapped16 (drop from body.now)) out.new result }
 {
-    let k = fours(body, from, out, at);
-    ones(body, k, out, at + (k - from))
-}
-
-// Pairs of 32-bit numbers, as long as there are any; gives the first byte that is left.
-fn pairs(body: &[u8], from: usize, out: &mut [u8], at: usize) -> usize
-    requires { (from ≤ length body.now) × (at + length (swapped32 (drop from body.now)) ≤ length out.old) }
-    ensures { (from ≤ result) × (result ≤ length body.now)
-        × Storing out.old at (swapped32 (drop from body.now)) out.new
-        (swapped32 (drop result body.now)) (at + (result - from)) }
-{
-    let mut k = from;
-    let mut n = at;
-    while 8 <= body.len() - k {
-        put_numbers2(body, k, out, n);
-        k += 8;
-        n += 8;
-    }
-    k
-}
-
-// The 32-bit numbers that are left, one by one.
-fn singles(body: &[u8], from: usize, out: &mut [u8], at: usize) -> usize
-    requires { (from ≤ length body.now) × (at + length (swapped32 (drop from body.now)) ≤ length out.old) }
-    ensures { Wrote out.old at (swapped32 (drop from body.now)) out.new result }
-{
-    let mut k = from;
-    let mut n = at;
-    while 4 <= body.len() - k {
-        put_number(body, k, out, n);
-        k += 4;
-        n += 4;
-    }
-    n
+    swap::<Words>(body, from, out, at)
 }
 
 // The 32-bit numbers of a body from a place on.
@@ -207,6 +215,5 @@ pub fn swap32(body: &[u8], from: usize, out: &mut [u8], at: usize) -> usize
     requires { (from ≤ length body.now) × (at + length (swapped32 (drop from body.now)) ≤ length out.old) }
     ensures { Wrote out.old at (swapped32 (drop from body.now)) out.new result }
 {
-    let k = pairs(body, from, out, at);
-    singles(body, k, out, at + (k - from))
+    swap::<Numbers>(body, from, out, at)
 }

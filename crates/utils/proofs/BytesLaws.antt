@@ -1,12 +1,10 @@
 -- The laws of def_wire's big-endian numbers and words: the one place that unfolds `pair_up`. Assumes nothing.
 --     Bytes, be16-lt          bytes below 256 make a number below its limit
---     be16-past, ..           past the end it is 0
 --     Same, be16-same, ..     the same bytes elsewhere (in a part) are the same number
 --     be16-two, ..            a number's bytes read back
 --     pair_up-*, words32-*     a list of bytes word by word, and its length in words
 use Rattle.std.proofs.Common.{◌≡◌, ℕ, zero, suc, ◌+◌, ◌*◌, ◌/◌, ◌%◌, ◌^◌, ◌<◌, ◌≤◌, List, [], ◌∷◌, ◌++◌, length, get_or, take, drop, sym, refl, ap, ◌∙◌, ap₂, add-zero, mod-eq_of_lt, add-one, arith, lit<, length-drop, get_or-drop, drop-cons, get_or-take}
 use lib.Arith.{mod-mul}
-use lib.ListN.{get_or-eq_default}
 use Rattle.def_wire.specs.Bytes.{byte_at, be16, be32, be64, pair_up, words16, words32, two, four, eight}
 
 -- ---- numbers
@@ -17,19 +15,6 @@ Bytes s = (i : ℕ) → get_or s i 0 < 256
 
 pub be16-lt : (s : List ℕ) (at : ℕ) → Bytes s → be16 s at < 65536
 be16-lt s at h = omega (arith, h at, h (at + 1))
-
--- past the end it is 0
-pub byte_at-past : (s : List ℕ) (at : ℕ) → length s ≤ at → byte_at s at ≡ 0
-byte_at-past s at h = get_or-eq_default s 0 h
-
-pub be16-past : (s : List ℕ) (at : ℕ) → length s ≤ at → be16 s at ≡ 0
-be16-past s at h = omega (arith, byte_at-past s at h, byte_at-past s (at + 1) (omega arith))
-
-pub be32-past : (s : List ℕ) (at : ℕ) → length s ≤ at → be32 s at ≡ 0
-be32-past s at h = omega (arith, be16-past s at h, be16-past s (at + 2) (omega arith))
-
-pub be64-past : (s : List ℕ) (at : ℕ) → length s ≤ at → be64 s at ≡ 0
-be64-past s at h = omega (arith, be32-past s at h, be32-past s (at + 4) (omega arith))
 
 -- ---- the same bytes elsewhere
 

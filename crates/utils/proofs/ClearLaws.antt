@@ -3,13 +3,12 @@
 --     fit-*                      the standard's fitness, kind by kind: the length, and of types 1 and 2 the words
 --     clear-fine, clear-lost     a rule that words meet, or do not; fine-clear, what it says where it is met
 --     has-*                      whether a word is among others: one by one, behind each other, by their indices
+use Rattle.std.specs.Prelude.{Ok, Err}
 use Rattle.std.proofs.Common.{◌≡◌, ℕ, zero, suc, ◌<◌, Bool, true, false, not, ◌||◌, eqb, List, [], ◌∷◌, ◌++◌, length, get_or, replicate, sym, refl, ap, ◌∙◌, arith, ne_eqb}
 use borrow.Author.Tests.{eqb-false}
 use Rattle.laws.proofs.Tests.{either}
 use Rattle.def_refusals.specs.declared.Refusal.TheVariants.{BadBlockLength}
-use Rattle.def_refusals.specs.declared.Checked.{Checked}
-use Rattle.def_refusals.specs.declared.Checked.TheVariants.{Fine, Unfit}
-use Rattle.def_refusals.specs.Answers.{then_check}
+use Rattle.def_refusals.specs.Answers.{then_check, Or}
 use Rattle.def_wire.specs.declared.Reading.TheVariants.{Standard}
 use Rattle.def_wire.specs.declared.Rle.{Rle}
 use Rattle.def_wire.specs.declared.Ranged.TheVariants.{Chunks, Times}
@@ -17,9 +16,9 @@ use Rattle.def_wire.specs.declared.Kind.{Kind}
 use Rattle.def_wire.specs.declared.Kind.TheVariants.{Spans, Clock, Echoes, Statistics}
 use Rattle.def_wire.specs.Block.{words_at, rule, standard_rule, lost_run, has, clear_rule, word_rule, fitness}
 
-pub then-fine : (x : Checked) → then_check x Fine ≡ x
-then-fine Fine = refl
-then-fine (Unfit y) = refl
+pub then-fine : (x : Or (Unit {0})) → then_check x (Ok tt) ≡ x
+then-fine (Ok _) = refl
+then-fine (Err y) = refl
 
 -- ---- the standard's fitness
 
@@ -46,31 +45,31 @@ module _ (v : List ℕ) where
   fit-statistics = then-fine (standard_rule Statistics (length v))
 
   -- a good length, and clear words
-  pub fit-fine : (k : Kind) → standard_rule k (length v) ≡ Fine → word_rule k (length v) v ≡ Fine
-      → fitness Standard k v ≡ Fine
+  pub fit-fine : (k : Kind) → standard_rule k (length v) ≡ Ok tt → word_rule k (length v) v ≡ Ok tt
+      → fitness Standard k v ≡ Ok tt
   unfolding fitness
   fit-fine k e f = rw e f
 
 -- ---- words
 
-abbrev is_fine : Checked → Bool
-is_fine Fine = true
-is_fine (Unfit y) = false
+abbrev is_fine : Or (Unit {0}) → Bool
+is_fine (Ok _) = true
+is_fine (Err y) = false
 
 module _ (l : ℕ) (ws : List ℕ) where
-  pub clear-fine : has lost_run ws ≡ false → clear_rule l ws ≡ Fine
+  pub clear-fine : has lost_run ws ≡ false → clear_rule l ws ≡ Ok tt
   unfolding clear_rule
   clear-fine e = rw e
 
-  pub clear-lost : has lost_run ws ≡ true → clear_rule l ws ≡ Unfit (BadBlockLength 12 l)
+  pub clear-lost : has lost_run ws ≡ true → clear_rule l ws ≡ Err (BadBlockLength 12 l)
   unfolding clear_rule
   clear-lost e = rw e
 
-  ruled : (b : Bool) → rule (not b) 12 l ≡ Fine → b ≡ false
+  ruled : (b : Bool) → rule (not b) 12 l ≡ Ok tt → b ≡ false
   ruled false e = refl
   ruled true e = sym (ap is_fine e)
 
-  pub fine-clear : clear_rule l ws ≡ Fine → has lost_run ws ≡ false
+  pub fine-clear : clear_rule l ws ≡ Ok tt → has lost_run ws ≡ false
   unfolding clear_rule
   fine-clear e = ruled (has lost_run ws) e
 

@@ -1,17 +1,32 @@
--- Numbers stored big-endian, a half at a time, and stores past the end. Assumes nothing.
-use Rattle.std.proofs.Common.{◌≡◌, ℕ, suc, ◌+◌, ◌/◌, ◌%◌, ◌≤◌, List, [], ◌∷◌, ◌++◌, length, set, sym, refl, ap, ◌∙◌, ap₂, arith, length-set}
-use lib.Seq.{sets, set_out}
+-- Bytes stored at an index, as far as there is room, and the bytes of a number's low half. Assumes nothing.
+use Rattle.std.proofs.Common.{◌≡◌, ℕ, suc, ◌+◌, ◌/◌, ◌%◌, ◌≤◌, List, [], ◌∷◌, ◌++◌, length, sym, refl, ap, ◌∙◌, ap₂, arith, length-take, take, drop, take-append-drop, append_assoc, length-drop, drop-drop}
+use lib.Seq.{sets, set_out, sets-eq, length-sets}
+use borrow.Rule.Slice.PartMut.{put_mid, mid_of}
 use Rattle.laws.proofs.Stores.{sets-append}
-use Rattle.def_wire.specs.Bytes.{two, four, eight}
+use Rattle.def_wire.specs.Bytes.{two, four}
 
 -- stores past the end do nothing
 pub sets-out : {A : Type 0} (l : List A) (i : ℕ) (vs : List A) → length l ≤ i → sets l i vs ≡ l
 sets-out l i [] h = refl
 sets-out l i (v ∷ vs) h = rw (set_out l i v h) (sets-out l (suc i) vs (omega arith))
 
--- of the last byte's store and one behind it only the first is left
-pub sets_last : (l : List ℕ) (i a b : ℕ) → length l ≤ i + 1 → sets l i (a ∷ b ∷ []) ≡ set l i a
-sets_last l i a b h = sets-out (set l i a) (suc i) (b ∷ []) (omega (arith, length-set l i a))
+-- what stands in the place of a part was stored there
+pub sets_mid : (l ys vs : List ℕ) (i k : ℕ) → i + k ≤ length l → length ys ≡ length (mid_of i k l) → ys ≡ vs
+    → put_mid i k l ys ≡ sets l i vs
+sets_mid l ys vs i k h n e =
+    let m : length vs ≡ k = omega (arith, n, ap length e, length-take k (drop i l), length-drop i l) in
+    rw (e, sets-eq vs l i (omega arith), append_assoc, m, drop-drop)
+
+-- of what does not fit, what fits is stored
+pub sets_cut : (l ys vs : List ℕ) (i k : ℕ) → length l ≡ i + k → length ys ≡ length (mid_of i k l) → ys ≡ take k vs
+    → put_mid i k l ys ≡ sets l i vs
+sets_cut l ys vs i k h n e =
+    let m : length (take k vs) ≡ k = omega (arith, n, ap length e, length-take k (drop i l), length-drop i l) in
+    let o : length (sets l i (take k vs)) ≡ i + k = omega (arith, length-sets l i (take k vs)) in
+    sets_mid l ys (take k vs) i k (omega arith) n e
+    ∙ sym (sets-out (sets l i (take k vs)) (i + k) (drop k vs) (omega arith))
+    ∙ sets-append (take k vs) (drop k vs) l i (i + k) (omega arith)
+    ∙ ap (sets l i) (take-append-drop k vs)
 
 -- a number's bytes are those of its low half
 pub two-low : (x : ℕ) → two (x % 65536) ≡ two x
@@ -22,17 +37,3 @@ four_low x =
     let y = x % 4294967296 in
     ap₂ (λ (a b : List ℕ). a ++ b) (sym (two-low (y / 65536)) ∙ ap two (omega arith) ∙ two-low (x / 65536))
     (sym (two-low y) ∙ ap two (omega arith) ∙ two-low x)
-
--- a run of stores and one behind it, known by an equation, are one run
-sets-halves : (l m n a b c : List ℕ) (i : ℕ) → m ≡ sets l i a → n ≡ sets m (i + length a) c → c ≡ b
-    → n ≡ sets l i (a ++ b)
-sets-halves l m n a b c i p q e = q ∙ (rw (p, e) (sets-append a b l i (i + length a) refl))
-
--- the high half and then the low half are the whole
-module _ (l m n : List ℕ) (i x : ℕ) where
-  pub sets-four : m ≡ sets l i (two (x / 65536)) → n ≡ sets m (i + 2) (two (x % 65536)) → n ≡ sets l i (four x)
-  sets-four p q = sets-halves l m n (two (x / 65536)) (two x) (two (x % 65536)) i p q (two-low x)
-
-  pub sets-eight : m ≡ sets l i (four (x / 4294967296)) → n ≡ sets m (i + 4) (four (x % 4294967296))
-      → n ≡ sets l i (eight x)
-  sets-eight p q = sets-halves l m n (four (x / 4294967296)) (four x) (four (x % 4294967296)) i p q (four_low x)

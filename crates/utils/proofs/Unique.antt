@@ -7,10 +7,10 @@ use Rattle.utils.proofs.pair.Reads as pair
 use Rattle.utils.proofs.join16.Reads as join16
 use Rattle.utils.proofs.join32.Reads as join32
 use Rattle.utils.proofs.byte_at.Reads as byte_at
-use Rattle.utils.proofs.load32.Reads as load32
 use Rattle.utils.proofs.u16_from_be_bytes.Reads as u16_from_be_bytes
 use Rattle.utils.proofs.u32_from_be_bytes.Reads as u32_from_be_bytes
 use Rattle.utils.proofs.u64_from_be_bytes.Reads as u64_from_be_bytes
+use Rattle.utils.proofs.load32.Reads as load32
 use Rattle.utils.proofs.put16.Reads as put16
 use Rattle.utils.proofs.put32.Reads as put32
 use Rattle.utils.proofs.put64.Reads as put64
@@ -31,9 +31,6 @@ join32-unique κs a r₁ r₂ s₁ s₂ p q = p ∙ sym q
 pub byte_at-unique : (κs : Lfts 1) → Fixes (byte_at.Post κs) (λ r s. r)
 byte_at-unique κs a r₁ r₂ s₁ s₂ p q = p ∙ sym q
 
-pub load32-unique : (κs : Lfts 1) → Fixes (load32.Post κs) (λ r s. r)
-load32-unique κs a r₁ r₂ s₁ s₂ p q = p ∙ sym q
-
 pub u16_from_be_bytes-unique : (κs : Lfts 1) → Fixes (u16_from_be_bytes.Post κs) (λ r s. r)
 u16_from_be_bytes-unique κs a r₁ r₂ s₁ s₂ p q = p ∙ sym q
 
@@ -42,6 +39,9 @@ u32_from_be_bytes-unique κs a r₁ r₂ s₁ s₂ p q = p ∙ sym q
 
 pub u64_from_be_bytes-unique : (κs : Lfts 1) → Fixes (u64_from_be_bytes.Post κs) (λ r s. r)
 u64_from_be_bytes-unique κs a r₁ r₂ s₁ s₂ p q = p ∙ sym q
+
+pub load32-unique : (κs : Lfts 1) → Fixes (load32.Post κs) (λ r s. r)
+load32-unique κs a r₁ r₂ s₁ s₂ p q = p ∙ sym q
 
 pub put16-unique-out : (κs : Lfts 1) → Fixes (put16.Post κs) (λ r s. s.0.now)
 put16-unique-out κs a r₁ r₂ s₁ s₂ p q = p ∙ sym q

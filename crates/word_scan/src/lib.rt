@@ -13,13 +13,10 @@ ghost use Rattle.def_jobs.specs.Jobs.{low16};
 fn has_low(bytes: &[u8], w: u16) -> bool
     ensures { result ≡ has w (low16 bytes.now) }
 {
-    let mut at: usize = 0;
+    let (words, _) = bytes.as_chunks();
     let mut found = false;
-    while at + 1 < bytes.len() {
-        if utils::pair(bytes[at + 1], bytes[at]) == w {
-            found = true;
-        }
-        at += 2;
+    for word in words {
+        found |= u16::from_le_bytes(*word) == w;
     }
     found
 }

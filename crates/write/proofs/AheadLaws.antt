@@ -1,12 +1,12 @@
 -- The records of a list from a place on, where they are good, as a loop passes them. Assumes nothing.
 --     Ahead     from a place on stand good records that ask for blocks
+use Rattle.std.specs.Prelude.{Ok}
 use Prim.Native.Nat.{ℕ, suc, ◌+◌, ◌≤◌, ◌<◌}
 use mathlib.Core.Path.{◌≡◌, sym, ap, ◌∙◌}
 use mathlib.Core.Bool.{true}
 use mathlib.Core.List.{List, ◌∷◌}
 use native.Mathlib.Omega.{arith}
 use lib.ListN.{length, drop, length-drop}
-use Rattle.def_refusals.specs.declared.Checked.TheVariants.{Fine}
 use Rattle.def_jobs.specs.Jobs.{Job, is_whole, job_at, is_block_job, jobs_fault}
 use Rattle.laws.proofs.Tests.{and-true}
 use Rattle.jobs.specs.Places.{job_of, next_job, jobs_behind}
@@ -16,9 +16,9 @@ use Rattle.jobs.proofs.PlaceLaws.{next-whole, behind-next, length-body, job-at}
 pub record Ahead (list : List ℕ) (at : ℕ) : Type 0 where
   pub within : at ≤ length list
   pub index : ℕ
-  pub fine : jobs_fault (suc index) (jobs_behind (drop at list)) ≡ Fine
+  pub fine : jobs_fault (suc index) (jobs_behind (drop at list)) ≡ Ok tt
 
-pub begun : (list : List ℕ) (from : ℕ) → from ≤ length list → jobs_fault 1 (jobs_behind (drop from list)) ≡ Fine
+pub begun : (list : List ℕ) (from : ℕ) → from ≤ length list → jobs_fault 1 (jobs_behind (drop from list)) ≡ Ok tt
     → Ahead list from
 begun list from h f = record { within = h; index = 0; fine = f }
 

@@ -1,11 +1,11 @@
 -- One turn of the loop that writes the blocks of a list's records. Assumes nothing.
 --     Writing     the blocks of the records before a place are written, and those from there on are good
+use Rattle.std.specs.Prelude.{Ok}
 use Prim.Native.Nat.{ℕ, ◌+◌, ◌≤◌, ◌<◌}
 use mathlib.Core.Path.{◌≡◌, refl, ap, subst, ◌∙◌}
 use mathlib.Core.List.{List, [], ◌∷◌, ◌++◌}
 use native.Mathlib.Omega.{arith}
 use lib.ListN.{length, drop, length-drop}
-use Rattle.def_refusals.specs.declared.Checked.TheVariants.{Fine}
 use Rattle.def_jobs.specs.declared.Layout.{Layout}
 use Rattle.def_jobs.specs.Jobs.{Job, job_at, jobs_fault}
 use Rattle.def_jobs.specs.Layout.{block_bytes, blocks_bytes}
@@ -32,7 +32,7 @@ unfolding blocks_bytes
 blocks-none layout = refl
 
 pub begun : (layout : Layout) (list l : List ℕ) (from i : ℕ) → from ≤ length list
-    → jobs_fault 1 (jobs_behind (drop from list)) ≡ Fine
+    → jobs_fault 1 (jobs_behind (drop from list)) ≡ Ok tt
     → i + length (blocks_bytes layout (jobs_behind (drop from list))) ≤ length l
     → Writing layout list (jobs_behind (drop from list)) l i l from i
 begun layout list l from i h f r = record { good = ahead.begun list from h f; state = start r }

@@ -1,5 +1,6 @@
 -- One turn of the loop that looks for the first record that misleads. Assumes nothing.
 --     Looking     no record before a place misleads, and how many bytes the blocks from there on have
+use Rattle.std.specs.Prelude.{Ok, Err}
 use Prim.Native.Nat.{ℕ, suc, ◌+◌, ◌-◌, ◌≤◌, ◌<◌}
 use mathlib.Core.Path.{◌≡◌, refl, sym, ap, ◌∙◌}
 use mathlib.Core.Bool.{true, false}
@@ -7,7 +8,6 @@ use mathlib.Core.List.{List}
 use native.Mathlib.Omega.{arith}
 use lib.ListN.{length, drop, length-drop}
 use Rattle.def_refusals.specs.declared.Refusal.TheVariants.{Misleads}
-use Rattle.def_refusals.specs.declared.Checked.TheVariants.{Fine, Unfit}
 use Rattle.def_jobs.specs.declared.Layout.TheVariants.{Careful}
 use Rattle.def_jobs.specs.Jobs.{Job, job_at, jobs_fault}
 use Rattle.def_jobs.specs.Layout.{block_bytes, blocks_bytes}
@@ -25,7 +25,7 @@ pub record Looking (list : List ℕ) (js : List Job) (at behind k : ℕ) : Type 
   pub bytes : behind ≡ length (blocks_bytes Careful (jobs_behind (drop at list)))
   pub none : misled_fault 0 js ≡ misled_fault k (jobs_behind (drop at list))
 
-pub begun : (list : List ℕ) (from bytes : ℕ) → from ≤ length list → jobs_fault 1 (jobs_behind (drop from list)) ≡ Fine
+pub begun : (list : List ℕ) (from bytes : ℕ) → from ≤ length list → jobs_fault 1 (jobs_behind (drop from list)) ≡ Ok tt
     → bytes ≡ length (blocks_bytes Careful (jobs_behind (drop from list)))
     → Looking list (jobs_behind (drop from list)) from bytes 0
 begun list from bytes h f e = record { good = ahead.begun list from h f; few = omega arith; bytes = e; none = refl }
@@ -54,7 +54,7 @@ module _ (list : List ℕ) (js : List Job) (at behind k : ℕ) (w : Looking list
         ≡ misled_by (job_at (drop at list)) (length (blocks_bytes Careful others))
     judged = rw (left, job-at (drop at list) kind body i b)
 
-    pub found : misled_by (job_of kind body) (behind - size) ≡ true → Unfit (Misleads k) ≡ misled_fault 0 js
+    pub found : misled_by (job_of kind body) (behind - size) ≡ true → Err (Misleads k) ≡ misled_fault 0 js
     unfolding misled_fault
     found t = sym (w.none ∙ ap (misled_fault k) (next list at w.good more) ∙ (rw (sym judged ∙ t)))
 
@@ -70,7 +70,7 @@ module _ (list : List ℕ) (js : List Job) (at behind k : ℕ) (w : Looking list
           none = rw s (w.none ∙ ap (misled_fault k) (next list at w.good more) ∙ (rw (sym judged ∙ f)));
         }
 
-  pub finished : length list ≤ at → Fine ≡ misled_fault 0 js
+  pub finished : length list ≤ at → (Ok tt) ≡ misled_fault 0 js
   unfolding misled_fault
   finished h =
       sym (w.none ∙ ap (misled_fault k) (behind-none (drop at list) (omega (arith, length-drop at list))))

@@ -3,6 +3,7 @@
 --     Framed               the list's records are good, and this is the packet's size
 --     packet-done, packet-misleads, packet-refused     what is answered before 11
 --     fifteen-padded, fifteen-bare                     15 by the list's records
+use Rattle.std.specs.Prelude.{Ok, Err}
 use Prim.Native.Nat.{ℕ, ◌+◌, ◌-◌, ◌/◌, ◌≤◌}
 use mathlib.Core.Path.{◌≡◌, sym, ap, subst, ◌∙◌}
 use mathlib.Core.Bool.{cond}
@@ -12,10 +13,7 @@ use lib.ListN.{length, drop}
 use lib.Dec.{eqb}
 use borrow.Author.Tests.{eq-eqb, ne_eqb}
 use Rattle.def_refusals.specs.declared.Refusal.{Refusal}
-use Rattle.def_refusals.specs.declared.Answer.TheVariants.{Done, Refused}
-use Rattle.def_refusals.specs.declared.Checked.{Checked}
-use Rattle.def_refusals.specs.declared.Checked.TheVariants.{Fine, Unfit}
-use Rattle.def_refusals.specs.Answers.{shown, refused, then_check}
+use Rattle.def_refusals.specs.Answers.{then_check, Or}
 use Rattle.def_wire.specs.Bytes.{two, four}
 use Rattle.def_jobs.specs.declared.Layout.{Layout}
 use Rattle.def_jobs.specs.declared.Layout.TheVariants.{Careful}
@@ -38,7 +36,7 @@ use Rattle.written.proofs.Lists.{Each}
 use Rattle.written.proofs.RecordsLaws.{Body, bodies, fit}
 use Rattle.old_readers.proofs.FaultLaws.{careful-fault}
 
-not-unfit : {P : Type 0} {x : Refusal} → Fine ≡ Unfit x → P
+not-unfit : {P : Type 0} {x : Refusal} → ◌≡◌ {A = Or (Unit {0})} (Ok tt) (Err x) → P
 not-unfit {x = x} e = absurd (let z : ◌≡◌ {A = ℕ} 0 1 = cc in omega arith)
 
 -- the records behind the header record
@@ -48,10 +46,10 @@ behind list = jobs_behind (drop (next_job list 0) list)
 pub record Framed (layout : Layout) (list : List ℕ) (size : ℕ) : Type 0 where
   pub jobs : jobs_of list ≡ job_at list ∷ behind list
   pub few : asked_padding (job_at list) ≤ 252
-  pub fine : jobs_fault 1 (behind list) ≡ Fine
+  pub fine : jobs_fault 1 (behind list) ≡ Ok tt
   pub sized : size ≡ 8 + asked_padding (job_at list) + length (blocks_bytes layout (behind list))
 
-pub framed : (layout : Layout) (list : List ℕ) (size : ℕ) → size_answer layout (jobs_of list) ≡ Done size
+pub framed : (layout : Layout) (list : List ℕ) (size : ℕ) → size_answer layout (jobs_of list) ≡ Ok size
     → Framed layout list size
 framed layout list size e =
     let z = size-done layout (jobs_of list) size e in
@@ -103,26 +101,26 @@ module _ (layout : Layout) (list : List ℕ) (size : ℕ) (f : Framed layout lis
           (filled r q).1 ∙ ap (λ (n : ℕ). layout_of layout (jobs_of list) ++ drop n out) l
 
 -- a check that comes behind two, where one of these refuses
-then-more : (a b c : Checked) (x : Refusal) → then_check a b ≡ Unfit x → then_check a (then_check b c) ≡ Unfit x
-then-more Fine Fine c x e = not-unfit e
-then-more Fine (Unfit y) c x e = e
-then-more (Unfit y) b c x e = e
+then-more : (a b c : Or (Unit {0})) (x : Refusal) → then_check a b ≡ Err x → then_check a (then_check b c) ≡ Err x
+then-more (Ok _) (Ok _) c x e = not-unfit e
+then-more (Ok _) (Err y) c x e = e
+then-more (Err y) b c x e = e
 
 -- before 11 come 12 and 14, and 15 where the layout asks for it
-abbrev pub fifteen : Layout → List ℕ → Checked
+abbrev pub fifteen : Layout → List ℕ → Or (Unit {0})
 fifteen layout list = mislead_fault layout (layout_of layout (jobs_of list)) (length (jobs_of list) - 1)
 
 module _ (layout : Layout) (list : List ℕ) where
-  module _ (size : ℕ) (e : size_answer layout (jobs_of list) ≡ Done size) where
-    pub packet-done : fifteen layout list ≡ Fine → packet_of layout list ≡ shown (layout_of layout (jobs_of list))
+  module _ (size : ℕ) (e : size_answer layout (jobs_of list) ≡ Ok size) where
+    pub packet-done : fifteen layout list ≡ Ok tt → packet_of layout list ≡ Ok (layout_of layout (jobs_of list))
     unfolding packet_of write_fault
     packet-done f = let z = size-done layout (jobs_of list) size e in rw (z.good, z.fits, f)
 
-    pub packet-misleads : (x : Refusal) → fifteen layout list ≡ Unfit x → packet_of layout list ≡ refused x
+    pub packet-misleads : (x : Refusal) → fifteen layout list ≡ Err x → packet_of layout list ≡ Err x
     unfolding packet_of write_fault
     packet-misleads x f = let z = size-done layout (jobs_of list) size e in rw (z.good, z.fits, f)
 
-  pub packet-refused : (x : Refusal) → size_answer layout (jobs_of list) ≡ Refused x → packet_of layout list ≡ refused x
+  pub packet-refused : (x : Refusal) → size_answer layout (jobs_of list) ≡ Err x → packet_of layout list ≡ Err x
   unfolding packet_of write_fault
   packet-refused x e =
       rw (then-more (jobs_fault 0 (jobs_of list)) (size_fault (length (jobs_of list) - 1)
@@ -130,8 +128,8 @@ module _ (layout : Layout) (list : List ℕ) where
       (size-refused layout (jobs_of list) x e))
 
 -- 15 by the list's records: none with padding
-module _ (list : List ℕ) (size : ℕ) (e : size_answer Careful (jobs_of list) ≡ Done size) (b : Bytes list) where
-  fifteen-is : fifteen Careful list ≡ cond (eqb (asked_padding (job_at list)) 0) (misled_fault 0 (behind list)) Fine
+module _ (list : List ℕ) (size : ℕ) (e : size_answer Careful (jobs_of list) ≡ Ok size) (b : Bytes list) where
+  fifteen-is : fifteen Careful list ≡ cond (eqb (asked_padding (job_at list)) 0) (misled_fault 0 (behind list)) (Ok tt)
   fifteen-is =
       let z = size-done Careful (jobs_of list) size e in
       let j = (framed Careful list size e).jobs in
@@ -141,7 +139,7 @@ module _ (list : List ℕ) (size : ℕ) (e : size_answer Careful (jobs_of list) 
       (careful-fault (job_at list) (behind list) _
       (fit Careful (job_at list) (behind list) (rw j at z.good) (rw j at z.fits)) h.0 h.1)
 
-  pub fifteen-padded : (asked_padding (job_at list) ≡ 0 → ⊥) → Fine ≡ fifteen Careful list
+  pub fifteen-padded : (asked_padding (job_at list) ≡ 0 → ⊥) → (Ok tt) ≡ fifteen Careful list
   fifteen-padded p = sym (fifteen-is ∙ (rw (ne_eqb _ _ p)))
 
   pub fifteen-bare : asked_padding (job_at list) ≡ 0 → misled_fault 0 (behind list) ≡ fifteen Careful list

@@ -5,8 +5,7 @@
 #![tactic(auto)]
 
 ghost use Rattle.std.specs.Prelude.{◌≡◌, ◌++◌, ◌+◌, ◌-◌, ◌≤◌, length, drop};
-ghost use Rattle.def_refusals.specs.Answers.{shown, Listed};
-ghost use Rattle.def_refusals.specs.declared.Checked.TheVariants.{Fine};
+ghost use Rattle.def_refusals.specs.Answers.{Listed};
 ghost use Rattle.laws.specs.Stores.{Wrote};
 ghost use Rattle.def_jobs.specs.Jobs.{jobs_of, jobs_fault};
 ghost use Rattle.def_jobs.specs.Layout.{blocks_bytes, layout_of};
@@ -16,11 +15,11 @@ ghost use Rattle.packet_size.specs.Sizes.{size_answer};
 ghost use Rattle.misled.specs.Misled.{misled_fault};
 
 use def_jobs::Layout;
-use def_refusals::{Answer, Checked, Refusal};
+use def_refusals::Refusal;
 
 // The blocks of the records from a place on.
 fn write_blocks(layout: Layout, list: &[u8], from: usize, out: &mut [u8], start: usize) -> usize
-    requires { (from ≤ length list.now) × (jobs_fault 1 (jobs_behind (drop from list.now)) ≡ Fine)
+    requires { (from ≤ length list.now) × (jobs_fault 1 (jobs_behind (drop from list.now)) ≡ Ok tt)
         × (start + length (blocks_bytes layout (jobs_behind (drop from list.now))) ≤ length out.old) }
     ensures { Wrote out.old start (blocks_bytes layout (jobs_behind (drop from list.now)))
         out.new result }
@@ -35,19 +34,13 @@ fn write_blocks(layout: Layout, list: &[u8], from: usize, out: &mut [u8], start:
     n
 }
 
-fn wide16(x: u16) -> usize
-    ensures { result ≡ x }
-{
-    x as usize
-}
-
 // A packet of `size` bytes, which the buffer has room for.
 fn lay_out(layout: Layout, list: &[u8], size: usize, out: &mut [u8])
-    requires { (size_answer layout (jobs_of list.now) ≡ Answer.Done size) × (size ≤ length out.old) }
+    requires { (size_answer layout (jobs_of list.now) ≡ Ok size) × (size ≤ length out.old) }
     ensures { out.new ≡ layout_of layout (jobs_of list.now) ++ drop size out.old }
 {
     let header = jobs::body_at(list, 0);
-    let padding = wide16(little_endian::u16_from_le_bytes(header, 4));
+    let padding = usize::from(little_endian::u16_from_le_bytes(header, 4));
     let blocks = frame::write_header(
         out,
         padding,
@@ -59,32 +52,30 @@ fn lay_out(layout: Layout, list: &[u8], size: usize, out: &mut [u8])
 }
 
 // The packet, where the buffer has room for it; else 11.
-fn put(layout: Layout, list: &[u8], size: usize, out: &mut [u8]) -> Answer
-    requires { size_answer layout (jobs_of list.now) ≡ Answer.Done size }
-    ensures { Listed (shown (layout_of layout (jobs_of list.now))) out.old result
+fn put(layout: Layout, list: &[u8], size: usize, out: &mut [u8]) -> Result<usize, Refusal>
+    requires { size_answer layout (jobs_of list.now) ≡ Ok size }
+    ensures { Listed (Ok (layout_of layout (jobs_of list.now))) out.old result
         out.new }
 {
     if out.len() < size {
-        return Answer::Refused(Refusal::NoRoom(size, out.len()));
+        return Err(Refusal::NoRoom(size, out.len()));
     }
     lay_out(layout, list, size, out);
-    Answer::Done(size)
+    Ok(size)
 }
 
 // The packet in the plain layout, and its length: 12, 14, 11. Bytes behind the packet stay, and a refused call writes
 // nothing.
-pub fn write_plain(list: &[u8], out: &mut [u8]) -> Answer
+pub fn write_plain(list: &[u8], out: &mut [u8]) -> Result<usize, Refusal>
     ensures { Listed (packet_of Layout.Plain list.now) out.old result out.new }
 {
-    match packet_size::packet_size(Layout::Plain, list) {
-        Answer::Done(n) => put(Layout::Plain, list, n, out),
-        Answer::Refused(x) => Answer::Refused(x),
-    }
+    let size = packet_size::packet_size(Layout::Plain, list)?;
+    put(Layout::Plain, list, size, out)
 }
 
 // 15 with the first of the records from a place on that misleads; their blocks have so many bytes.
-fn misled_behind(list: &[u8], from: usize, bytes: usize) -> Checked
-    requires { (from ≤ length list.now) × (jobs_fault 1 (jobs_behind (drop from list.now)) ≡ Fine)
+fn misled_behind(list: &[u8], from: usize, bytes: usize) -> Result<(), Refusal>
+    requires { (from ≤ length list.now) × (jobs_fault 1 (jobs_behind (drop from list.now)) ≡ Ok tt)
         × (bytes ≡ length (blocks_bytes Layout.Careful (jobs_behind (drop from list.now)))) }
     ensures { result ≡ misled_fault 0 (jobs_behind (drop from list.now)) }
 {
@@ -96,36 +87,32 @@ fn misled_behind(list: &[u8], from: usize, bytes: usize) -> Checked
         let kind = jobs::whole_kind(list, at);
         behind -= block_size::block_size(Layout::Careful, kind, body);
         if misled::misled(kind, body, behind) {
-            return Checked::Unfit(Refusal::Misleads(k));
+            return Err(Refusal::Misleads(k));
         }
         k += 1;
         at += 6 + body.len();
     }
-    Checked::Fine
+    Ok(())
 }
 
 // 15 of a packet of `size` bytes: none with padding, as the crate then refuses the packet.
-fn misleading(list: &[u8], size: usize) -> Checked
-    requires { size_answer Layout.Careful (jobs_of list.now) ≡ Answer.Done size }
+fn misleading(list: &[u8], size: usize) -> Result<(), Refusal>
+    requires { size_answer Layout.Careful (jobs_of list.now) ≡ Ok size }
     ensures { result ≡ mislead_fault Layout.Careful (layout_of Layout.Careful (jobs_of list.now))
         (length (jobs_of list.now) - 1) }
 {
     if little_endian::u16_from_le_bytes(jobs::body_at(list, 0), 4) != 0 {
-        return Checked::Fine;
+        return Ok(());
     }
     misled_behind(list, jobs::next_at(list, 0), size - 8)
 }
 
 // The packet in the careful layout, and its length: 12, 14, 15, 11. An old reader of it is not misled. Bytes behind the
 // packet stay, and a refused call writes nothing.
-pub fn write_careful(list: &[u8], out: &mut [u8]) -> Answer
+pub fn write_careful(list: &[u8], out: &mut [u8]) -> Result<usize, Refusal>
     ensures { Listed (packet_of Layout.Careful list.now) out.old result out.new }
 {
-    match packet_size::packet_size(Layout::Careful, list) {
-        Answer::Done(n) => match misleading(list, n) {
-            Checked::Fine => put(Layout::Careful, list, n, out),
-            Checked::Unfit(x) => Answer::Refused(x),
-        },
-        Answer::Refused(y) => Answer::Refused(y),
-    }
+    let size = packet_size::packet_size(Layout::Careful, list)?;
+    misleading(list, size)?;
+    put(Layout::Careful, list, size, out)
 }

@@ -2,6 +2,7 @@
 -- nothing.
 --     Laid           a block v that shows r
 --     rle-laid, times-laid, clock-laid, echoes-laid, sums-laid     the blocks of each kind
+use Rattle.std.specs.Prelude.{Ok, Some}
 use Prim.Native.Nat.{ℕ, ◌+◌, ◌-◌, ◌/◌, ◌%◌, ◌≤◌, ◌<◌, ◌^◌}
 use mathlib.Core.Path.{◌≡◌, refl, ap}
 use mathlib.Core.Bool.{false}
@@ -10,8 +11,6 @@ use native.Mathlib.Nat.{mod-eq_of_lt}
 use native.Mathlib.Omega.{arith}
 use lib.ListN.{length, drop}
 use borrow.Author.Tests.{eq-eqb, le-leb}
-use Rattle.def_refusals.specs.declared.Checked.TheVariants.{Fine}
-use Rattle.def_refusals.specs.Answers.{shown}
 use Rattle.def_wire.specs.declared.Reading.TheVariants.{Standard}
 use Rattle.def_wire.specs.declared.Rle.{Rle}
 use Rattle.def_wire.specs.declared.Rle.TheVariants.{Loss, Duplicate}
@@ -19,7 +18,6 @@ use Rattle.def_wire.specs.declared.Ranged.{Ranged}
 use Rattle.def_wire.specs.declared.Ranged.TheVariants.{Chunks, Times}
 use Rattle.def_wire.specs.declared.Kind.{Kind}
 use Rattle.def_wire.specs.declared.Kind.TheVariants.{Spans, Echoes}
-use Rattle.def_wire.specs.declared.KindOr.TheVariants.{AKind}
 use Rattle.def_wire.specs.declared.Fields.{Fields}
 use Rattle.def_wire.specs.declared.Sums.{Sums}
 use Rattle.def_wire.specs.Bytes.{words16, words32, two, four, eight}
@@ -46,8 +44,8 @@ announces-head type specific behind rest e m h =
 
 -- ---- a block that is fit to be read
 
-check-fine : (k : Kind) (v : List ℕ) → type_of v ≡ kind_type k → standard_rule k (length v) ≡ Fine
-    → word_rule k (length v) v ≡ Fine → check_of Standard k v ≡ Fine
+check-fine : (k : Kind) (v : List ℕ) → type_of v ≡ kind_type k → standard_rule k (length v) ≡ Ok tt
+    → word_rule k (length v) v ≡ Ok tt → check_of Standard k v ≡ Ok tt
 unfolding check_of
 check-fine k v t r w = rw (eq-eqb _ _ t) (fit-fine v k r w)
 
@@ -71,7 +69,7 @@ module _ (type : ℕ) (f : Fields) (rest : List ℕ) where
         thinning = mod-eq_of_lt {n = f.thinning} {m = 16} (omega arith) i;
       }
 
-  fields_fit : (g : Ranged) → standard_rule (Spans g) (length (with_fields type f rest)) ≡ Fine
+  fields_fit : (g : Ranged) → standard_rule (Spans g) (length (with_fields type f rest)) ≡ Ok tt
   unfolding standard_rule
   fields_fit g =
       let h : 12 ≤ length (with_fields type f rest) = omega arith in rw (le-leb 12 (length (with_fields type f rest)) h)
@@ -87,9 +85,9 @@ module _ (type : ℕ) (f : Fields) (rest : List ℕ) where
 pub record Laid (v : List ℕ) (r : Record) : Type 0 where
   pub whole : length v % 4 ≡ 0
   pub announces : length v ≤ max_bytes → Announces v
-  pub shows : record_of Standard v ≡ shown r
+  pub shows : record_of Standard v ≡ Ok r
 
-pub kind-rle : (a : Rle) → kind_of (rle_type a) ≡ AKind (Spans (Chunks a))
+pub kind-rle : (a : Rle) → kind_of (rle_type a) ≡ Some (Spans (Chunks a))
 unfolding kind_of ranged_of rle_of
 kind-rle Loss = refl
 kind-rle Duplicate = refl
@@ -105,7 +103,7 @@ module _ (f : Fields) (rest : List ℕ) (h : Fits f) (m : length rest % 4 ≡ 0)
         whole = omega arith;
         announces = announces-fields (rle_type a) f rest m;
         shows = rw (kind-rle a, check-fine (Spans (Chunks a)) v refl (fields_fit (rle_type a) f rest (Chunks a)) w)
-            (ap (λ (x : Fields). shown (reported a x (numbers_of (range_of x) (words16 rest))))
+            (ap (λ (x : Fields). Ok (reported a x (numbers_of (range_of x) (words16 rest))))
             (fields_back (rle_type a) f rest h));
       }
 
@@ -117,7 +115,7 @@ module _ (f : Fields) (rest : List ℕ) (h : Fits f) (m : length rest % 4 ≡ 0)
         whole = omega arith;
         announces = announces-fields receipt_type f rest m;
         shows = rw (check-fine (Spans Times) v refl (fields_fit receipt_type f rest Times) refl)
-            (ap (λ (x : Fields). shown (received x (pairs_of (range_of x) (words32 rest))))
+            (ap (λ (x : Fields). Ok (received x (pairs_of (range_of x) (words32 rest))))
             (fields_back receipt_type f rest h));
       }
 
@@ -127,7 +125,7 @@ clock-laid x h =
     record {
       whole = refl;
       announces = λ l. refl;
-      shows = ap (λ (t : ℕ). shown (clocked (record { 0 = t }))) (be64-eight x [] h);
+      shows = ap (λ (t : ℕ). Ok (clocked (record { 0 = t }))) (be64-eight x [] h);
     }
 
 pub echoes-laid : (n : ℕ) (rest : List ℕ) → n ≡ length rest → length rest % 12 ≡ 0
@@ -185,5 +183,5 @@ module _ (flags : ℕ) (n : Sums) where
       record {
         whole = refl;
         announces = λ l. refl;
-        shows = ap (λ (x : Sums). shown (summed (summary_from flags x))) (sums-back h);
+        shows = ap (λ (x : Sums). Ok (summed (summary_from flags x))) (sums-back h);
       }

@@ -1,5 +1,6 @@
 -- The header of a packet of n bytes of padding, the sender x and blocks: it is accepted, and the blocks end before the
 -- padding. Assumes nothing.
+use Rattle.std.specs.Prelude.{Ok}
 use Prim.Native.Nat.{ℕ, zero, suc, ◌+◌, ◌-◌, ◌/◌, ◌%◌, ◌≤◌, ◌<◌}
 use mathlib.Core.Path.{◌≡◌, refl, ◌∙◌}
 use mathlib.Core.Bool.{true, false, cond}
@@ -8,7 +9,6 @@ use native.Mathlib.Omega.{arith}
 use lib.ListN.{length, replicate, length-append, length-replicate}
 use lib.Dec.{eqb-suc-zero}
 use borrow.Author.Tests.{eq-eqb, ne_eqb, le-ltb}
-use Rattle.def_refusals.specs.declared.Answer.TheVariants.{Done}
 use Rattle.def_wire.specs.declared.Reading.{Reading}
 use Rattle.def_wire.specs.declared.Reading.TheVariants.{Standard}
 use Rattle.def_wire.specs.Bytes.{byte_at, two, four}
@@ -78,14 +78,14 @@ fine-padding (suc n) x blocks p =
 
 header-accepted : (r : Reading) (s : List ℕ) → least_of r ≤ length s → version_of s ≡ 2 → byte_at s 1 ≡ 207
     → announced_of s ≡ length s → cond (is_padded s) (is_bad_padding (padding_of s) (length s)) false ≡ false
-    → header_of r s ≡ Done (stop_of r s)
+    → header_of r s ≡ Ok (stop_of r s)
 unfolding header_of
 header-accepted r s h v t l p = rw (le-ltb _ _ h, eq-eqb _ _ v, eq-eqb _ _ t, eq-eqb _ _ l, p)
 
 -- it is accepted, where it has the reading's least bytes
 pub header-around : (r : Reading) (n x : ℕ) (blocks : List ℕ) → n % 4 ≡ 0 → length blocks % 4 ≡ 0
     → length (around n x blocks) ≤ max_bytes → least_of r ≤ length (around n x blocks)
-    → header_of r (around n x blocks) ≡ Done (stop_of r (around n x blocks))
+    → header_of r (around n x blocks) ≡ Ok (stop_of r (around n x blocks))
 header-around r n x blocks p b small least =
     header-accepted r (around n x blocks) least (version-around n x blocks) refl
     (announced-around n x blocks p b small) (fine-padding n x blocks p)

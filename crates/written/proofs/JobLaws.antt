@@ -1,4 +1,5 @@
 -- The block of a good record is laid as the record asks, for each kind. Assumes nothing.
+use Rattle.std.specs.Prelude.{Option, Some, None}
 use Prim.Native.Nat.{ℕ, ◌+◌, ◌%◌, ◌<◌, ◌^◌}
 use mathlib.Core.Path.{◌≡◌, refl}
 use mathlib.Core.Bool.{Bool, true, false, not}
@@ -7,12 +8,11 @@ use native.Mathlib.Omega.{arith}
 use lib.ListN.{length, drop}
 use lib.Dec.{leb}
 use borrow.Author.Tests.{leb-true, eqb-true}
+use Rattle.def_wire.specs.declared.Kind.{Kind}
 use Rattle.laws.proofs.Tests.{and-true, true≢false}
 use Rattle.def_wire.specs.declared.Rle.{Rle}
 use Rattle.def_wire.specs.declared.Ranged.TheVariants.{Chunks, Times}
 use Rattle.def_wire.specs.declared.Kind.TheVariants.{Spans, Clock, Echoes, Statistics}
-use Rattle.def_wire.specs.declared.KindOr.{KindOr}
-use Rattle.def_wire.specs.declared.KindOr.TheVariants.{AKind, NoKind}
 use Rattle.def_wire.specs.Bytes.{four}
 use Rattle.def_wire.specs.Block.{lost_run, has, kind_of}
 use Rattle.def_standard.specs.Range.{range_of}
@@ -67,7 +67,7 @@ sums-fit j h =
     }
 
 -- a good record's words: fields before them, and no run of ones of no length among them
-pub words-good : (a : Rle) (j : Job) → is_body (AKind (Spans (Chunks a))) j ≡ true
+pub words-good : (a : Rle) (j : Job) → is_body (Some (Spans (Chunks a))) j ≡ true
     → (has_fields j 2 ≡ true) × (has lost_run (job_words j) ≡ false)
 words-good a j g =
     let p = and-true (has_fields j 2) _ g in
@@ -77,30 +77,30 @@ words-good a j g =
     not-true true e = true≢false e
     not-true false e = refl
 
-pub laid_as : (k : KindOr) (layout : Layout) (j : Job) → is_body k j ≡ true → Body j
+pub laid_as : (k : Option Kind) (layout : Layout) (j : Job) → is_body k j ≡ true → Body j
     → Laid (bytes_as k layout j) (asked_as k j)
-laid_as (AKind (Spans (Chunks a))) layout j g h =
+laid_as (Some (Spans (Chunks a))) layout j g h =
     let u = under-low16 (drop 10 j.body) (under_drop 256 10 j.body h) in
     let w = words-good a j g in
     rw (numbers-behind layout (range_of (job_fields j)) (job_words j) u) at
     (rle-laid (job_fields j) (words_bytes layout (job_words j)) (job-fits j 2 w.0 h) (words-even layout (job_words j)) a
     (clear_behind layout (job_words j) u w.1))
-laid_as (AKind (Spans Times)) layout j g h =
+laid_as (Some (Spans Times)) layout j g h =
     let u = under-low32 (drop 10 j.body) (under_drop 256 10 j.body h) in
     let l = length-bytes_of four 4 (λ x. refl) (job_times j) in
     let m : length (bytes_of four (job_times j)) % 4 ≡ 0 = omega (arith, l) in
     rw (words32-bytes (job_times j) u) at
     (times-laid (job_fields j) (bytes_of four (job_times j)) (job-fits j 4 g h) m)
-laid_as (AKind Clock) layout j g h = clock-laid (le64 j.body 0) (le64-lt j.body h 0)
-laid_as (AKind Echoes) layout j g h =
+laid_as (Some Clock) layout j g h = clock-laid (le64 j.body 0) (le64-lt j.body h 0)
+laid_as (Some Echoes) layout j g h =
     let l = length-bytes_of four 4 (λ x. refl) (low32 j.body) in
     let n = length-low32 j.body in
     let m : length j.body % 12 ≡ 0 = eqb-true _ _ g in
     let e : length j.body ≡ length (bytes_of four (low32 j.body)) = omega arith in
     rw (words32-bytes (low32 j.body) (under-low32 j.body h)) at
     (echoes-laid (length j.body) (bytes_of four (low32 j.body)) e (omega arith))
-laid_as (AKind Statistics) layout j g h = sums-laid (job_flags j) (job_sums j) (sums-fit j h)
-laid_as NoKind layout j g h = true≢false g
+laid_as (Some Statistics) layout j g h = sums-laid (job_flags j) (job_sums j) (sums-fit j h)
+laid_as None layout j g h = true≢false g
 
 pub block-laid : (layout : Layout) (j : Job) → is_block_job j ≡ true → Body j → Laid (block_bytes layout j) (asked_of j)
 unfolding is_block_job block_bytes asked_of

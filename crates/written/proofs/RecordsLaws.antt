@@ -2,6 +2,7 @@
 --     Body, bodies     a record's body is bytes, where the list is
 --     Good, Fit        a record that asks for a block; records that 12 and 14 let pass, laid out
 --     written          a packet that is written is the layout of such records
+use Rattle.std.specs.Prelude.{Ok, Err}
 use Prim.Native.Nat.{ℕ, zero, suc, ◌+◌, ◌-◌, ◌≤◌}
 use mathlib.Core.Path.{◌≡◌, refl}
 use mathlib.Core.Bool.{true}
@@ -11,10 +12,8 @@ use lib.ListN.{length, drop}
 use lib.Dec.{leb, ltb, lit<}
 use borrow.Author.Tests.{ltb-false}
 use Rattle.laws.proofs.Tests.{by-test, both}
-use Rattle.def_refusals.specs.declared.Checked.{Checked}
-use Rattle.def_refusals.specs.declared.Checked.TheVariants.{Fine, Unfit}
 use Rattle.def_refusals.specs.declared.Refusal.{Refusal}
-use Rattle.def_refusals.specs.Answers.{shown, refused, on_fine, then_check}
+use Rattle.def_refusals.specs.Answers.{on_fine, then_check, Or}
 use Rattle.def_jobs.specs.declared.Layout.{Layout}
 use Rattle.def_jobs.specs.Jobs.{Job, le32, is_whole, job_at, jobs_from, jobs_of, is_header_job, is_block_job}
 use Rattle.def_jobs.specs.Jobs.{jobs_fault}
@@ -45,42 +44,42 @@ bodies list h = bodies-from (suc (length list)) list h
 
 -- ---- a written packet's records
 
-no-fault : {P : Type 0} {x : Refusal} → Unfit x ≡ Fine → P
+no-fault : {P : Type 0} {x : Refusal} → ◌≡◌ {A = Or (Unit {0})} (Err x) (Ok tt) → P
 no-fault {x = x} e = absurd (let z : ◌≡◌ {A = ℕ} 0 1 = cc in omega arith)
 
-pub not-shown : {P A : Type 0} {x : Refusal} {a : A} → refused x ≡ shown a → P
+pub not-shown : {P A : Type 0} {x : Refusal} {a : A} → Err x ≡ Ok a → P
 not-shown {x = x} {a = a} e = absurd (let z : ◌≡◌ {A = ℕ} 0 1 = cc in omega arith)
 
-then-fine : (a b : Checked) → then_check a b ≡ Fine → (a ≡ Fine) × (b ≡ Fine)
-then-fine Fine b e = (refl, e)
-then-fine (Unfit x) b e = no-fault e
+then-fine : (a b : Or (Unit {0})) → then_check a b ≡ Ok tt → (a ≡ Ok tt) × (b ≡ Ok tt)
+then-fine (Ok _) b e = (refl, e)
+then-fine (Err x) b e = no-fault e
 
-pub on_fine_lem : {A : Type 0} (c : Checked) (a s : A) → on_fine c (shown a) ≡ shown s → (c ≡ Fine) × (a ≡ s)
-on_fine_lem Fine a s e = (refl, cc)
-on_fine_lem (Unfit x) a s e = not-shown e
+pub on_fine_lem : {A : Type 0} (c : Or (Unit {0})) (a s : A) → on_fine c (Ok a) ≡ Ok s → (c ≡ Ok tt) × (a ≡ s)
+on_fine_lem (Ok _) a s e = (refl, cc)
+on_fine_lem (Err x) a s e = not-shown e
 
 -- a record that asks for a block
 abbrev pub Good : Job → Type 0
 Good j = is_block_job j ≡ true
 
 -- all behind the first do
-good-blocks : (i : ℕ) (js : List Job) → jobs_fault (suc i) js ≡ Fine → Each Good js
+good-blocks : (i : ℕ) (js : List Job) → jobs_fault (suc i) js ≡ Ok tt → Each Good js
 unfolding jobs_fault
 good-blocks i [] e = tt
 good-blocks i (j ∷ js) e =
     by-test (is_block_job j) (λ g d. (g, good-blocks (suc i) js d)) (λ _ d. no-fault d) e
 
-good-jobs : (h : Job) (js : List Job) → jobs_fault 0 (h ∷ js) ≡ Fine → (is_header_job h ≡ true) × Each Good js
+good-jobs : (h : Job) (js : List Job) → jobs_fault 0 (h ∷ js) ≡ Ok tt → (is_header_job h ≡ true) × Each Good js
 unfolding jobs_fault
 good-jobs h js = by-test (is_header_job h) (λ a d. (a, good-blocks 0 js d)) (λ _ d. no-fault d)
 
-small_size : (n bytes : ℕ) → size_fault n bytes ≡ Fine → (n ≤ max_blocks) × (bytes ≤ max_bytes)
+small_size : (n bytes : ℕ) → size_fault n bytes ≡ Ok tt → (n ≤ max_blocks) × (bytes ≤ max_bytes)
 small_size n bytes =
     by-test (ltb max_blocks n) (λ _ d. no-fault d)
     (λ a. by-test (ltb max_bytes bytes) (λ _ d. no-fault d) (λ b _. (ltb-false _ _ a, ltb-false _ _ b)))
 
 -- 14 of records in a layout
-abbrev pub layout_fault : Layout → List Job → Checked
+abbrev pub layout_fault : Layout → List Job → Or (Unit {0})
 layout_fault layout js = size_fault (length js - 1) (length (layout_of layout js))
 
 -- records that 12 and 14 let pass, laid out as the packet s
@@ -91,7 +90,7 @@ pub record Fit (layout : Layout) (h : Job) (js : List Job) (s : List ℕ) : Type
   pub few : length js ≤ max_blocks
   pub small : length s ≤ max_bytes
 
-pub fit : (layout : Layout) (h : Job) (js : List Job) → jobs_fault 0 (h ∷ js) ≡ Fine → layout_fault layout (h ∷ js) ≡ Fine
+pub fit : (layout : Layout) (h : Job) (js : List Job) → jobs_fault 0 (h ∷ js) ≡ Ok tt → layout_fault layout (h ∷ js) ≡ Ok tt
     → Fit layout h js (layout_of layout (h ∷ js))
 fit layout h js f g =
     let j = good-jobs h js f in
@@ -99,8 +98,8 @@ fit layout h js f g =
     record { laid = refl; header = j.0; blocks = j.1; few = omega arith; small = z.1 }
 
 -- a packet that is written is the layout of records that 12 and 14 let pass
-pub written : (layout : Layout) (list s : List ℕ) → packet_of layout list ≡ shown s
-    → (jobs_fault 0 (jobs_of list) ≡ Fine) × (layout_fault layout (jobs_of list) ≡ Fine)
+pub written : (layout : Layout) (list s : List ℕ) → packet_of layout list ≡ Ok s
+    → (jobs_fault 0 (jobs_of list) ≡ Ok tt) × (layout_fault layout (jobs_of list) ≡ Ok tt)
     × (layout_of layout (jobs_of list) ≡ s)
 unfolding packet_of write_fault
 written layout list s e =

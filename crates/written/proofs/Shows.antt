@@ -1,6 +1,7 @@
 -- A written packet shows what its records ask. Assumes nothing.
 --     layout-shows      of the layout of records that 12 and 14 let pass
 --     written-shows     of a packet that is written
+use Rattle.std.specs.Prelude.{Ok}
 use Prim.Native.Nat.{ℕ, ◌+◌, ◌%◌, ◌≤◌, ◌<◌}
 use mathlib.Core.Path.{◌≡◌, refl, ap, subst, ◌∙◌}
 use mathlib.Core.Bool.{true}
@@ -11,9 +12,6 @@ use lib.ListN.{length, get_or, drop, length-append, length-map, get_or-map}
 use lib.Dec.{eqb}
 use borrow.Author.Tests.{eqb-true}
 use Rattle.laws.proofs.Tests.{and-true}
-use Rattle.def_refusals.specs.declared.Answer.TheVariants.{Done}
-use Rattle.def_refusals.specs.declared.Checked.TheVariants.{Fine}
-use Rattle.def_refusals.specs.Answers.{shown}
 use Rattle.def_wire.specs.declared.Reading.TheVariants.{Standard}
 use Rattle.def_wire.specs.Packet.{header_of, count_of, view_of}
 use Rattle.def_wire.specs.Block.{rle_of, ranged_of, kind_of}
@@ -91,15 +89,15 @@ module _ (layout : Layout) (h : Job) (js : List Job) (s : List ℕ) (w : Fit lay
   pub stands : drop 8 s ≡ joined bs ++ padding_bytes n
   stands = ap (drop 8) packet-around
 
-  header-done : header_of Standard s ≡ Done (8 + length (joined bs))
+  header-done : header_of Standard s ≡ Ok (8 + length (joined bs))
   header-done =
       let l = length-around n (sender_of h) (joined bs) in
       rw packet-around
       (header-around Standard n (sender_of h) (joined bs) (header-padding h w.header)
       (whole-blocks layout js w.blocks b) small-around (omega arith)
-      ∙ ap Done (stop-around n (sender_of h) (joined bs)))
+      ∙ ap Ok (stop-around n (sender_of h) (joined bs)))
 
-  count-done : count_of Standard s ≡ Done (length bs)
+  count-done : count_of Standard s ≡ Ok (length bs)
   count-done = count-blocks Standard s (padding_bytes n) bs (8 + length (joined bs)) header-done refl announced stands
 
   module _ (k : ℕ) (l : k < length js) where
@@ -109,12 +107,12 @@ module _ (layout : Layout) (h : Job) (js : List Job) (s : List ℕ) (w : Fit lay
     pub good-at : Good j
     good-at = each_at Good cut_job js k w.blocks l
 
-    pub view-at : view_of Standard s k ≡ shown (block_bytes layout j)
+    pub view-at : view_of Standard s k ≡ Ok (block_bytes layout j)
     view-at =
         view-block s (padding_bytes n) bs k count-done announced stands (rw (length-map js (block_bytes layout)) l)
-        ∙ ap shown (block_at layout js k)
+        ∙ ap Ok (block_at layout js k)
 
-    shown-at : shown_in Standard s k ≡ shown (asked_of j)
+    shown-at : shown_in Standard s k ≡ Ok (asked_of j)
     shown-at = rw view-at (block-laid layout j good-at (each_at Body cut_job js k b l)).shows
 
   packet-shows : Shows layout (h ∷ js) s
@@ -122,7 +120,7 @@ module _ (layout : Layout) (h : Job) (js : List Job) (s : List ℕ) (w : Fit lay
       let e : blocks_in (h ∷ js) ≡ length js = omega arith in
       record {
         laid = w.laid;
-        counted = rw e (count-done ∙ ap Done (length-map js (block_bytes layout)));
+        counted = rw e (count-done ∙ ap Ok (length-map js (block_bytes layout)));
         sender = rw packet-around (sender-around n (sender_of h) (joined bs) (le32-lt h.body bh 0));
         asks = λ k l. rw add-one (good-at k (omega (arith, l, e)));
         viewed = λ k l. rw add-one (view-at k (omega (arith, l, e)));
@@ -130,18 +128,18 @@ module _ (layout : Layout) (h : Job) (js : List Job) (s : List ℕ) (w : Fit lay
       }
 
 -- records that 12 and 14 let pass show what they ask, also where 15 does not
-pub layout-shows : (layout : Layout) (list : List ℕ) → Bytes list → jobs_fault 0 (jobs_of list) ≡ Fine
-    → layout_fault layout (jobs_of list) ≡ Fine → Shows layout (jobs_of list) (layout_of layout (jobs_of list))
+pub layout-shows : (layout : Layout) (list : List ℕ) → Bytes list → jobs_fault 0 (jobs_of list) ≡ Ok tt
+    → layout_fault layout (jobs_of list) ≡ Ok tt → Shows layout (jobs_of list) (layout_of layout (jobs_of list))
 layout-shows layout list b = by_first (jobs_of list) (some-record list) (bodies list b)
   where
-    by_first : (js : List Job) → (js ≡ [] → ⊥) → Each Body js → jobs_fault 0 js ≡ Fine → layout_fault layout js ≡ Fine
+    by_first : (js : List Job) → (js ≡ [] → ⊥) → Each Body js → jobs_fault 0 js ≡ Ok tt → layout_fault layout js ≡ Ok tt
         → Shows layout js (layout_of layout js)
     by_first [] k b f g = absurd (k refl)
     by_first (h ∷ js) k b f g =
         packet-shows layout h js (layout_of layout (h ∷ js)) (fit layout h js f g) b.0 b.1
 
 -- whatever is written shows what its records ask
-pub written-shows : (layout : Layout) (list s : List ℕ) → Bytes list → packet_of layout list ≡ shown s
+pub written-shows : (layout : Layout) (list s : List ℕ) → Bytes list → packet_of layout list ≡ Ok s
     → Shows layout (jobs_of list) s
 written-shows layout list s b e =
     let w = written layout list s e in

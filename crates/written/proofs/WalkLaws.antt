@@ -3,6 +3,7 @@
 --     Stands                from a place on stand the blocks, and then the rest
 --     walk-blocks           the walk passes them all, up to any stop behind them
 --     place-blocks          and comes to each
+use Rattle.std.specs.Prelude.{Ok}
 use Prim.Native.Nat.{ℕ, zero, suc, ◌+◌, ◌*◌, ◌-◌, ◌≤◌, ◌<◌}
 use mathlib.Core.Path.{◌≡◌, refl, sym, ap, ◌∙◌}
 use mathlib.Core.List.{List, [], ◌∷◌, ◌++◌, append_assoc}
@@ -11,11 +12,8 @@ use native.Mathlib.Omega.{arith}
 use lib.ListN.{length, get_or, drop, length-append, length-drop, get_or-append}
 use lib.Seq.{drop-cons, drop-drop, drop-append_seam, take-append_seam}
 use borrow.Author.Tests.{lt-ltb, le-ltb, le-leb, lt-leb}
-use Rattle.def_refusals.specs.declared.Answer.TheVariants.{Done}
-use Rattle.def_refusals.specs.Answers.{shown}
 use Rattle.def_wire.specs.declared.Reading.{Reading}
 use Rattle.def_wire.specs.declared.Reading.TheVariants.{Standard}
-use Rattle.def_wire.specs.declared.Located.TheVariants.{At}
 use Rattle.def_wire.specs.Bytes.{be16}
 use Rattle.def_wire.specs.Packet.{length_at, place_of, walk_from, part, header_of, count_of, size_at, locate, view_of}
 use Rattle.utils.proofs.BytesLaws.{Same, be16-same, same_drop}
@@ -24,7 +22,7 @@ use Rattle.written.proofs.Lists.{Each, each_at}
 -- ---- one turn of the walk
 
 module _ (s : List ℕ) (stop at n : ℕ) where
-  pub walk_end : (f : ℕ) → stop ≤ at → walk_from s stop f at n ≡ Done n
+  pub walk_end : (f : ℕ) → stop ≤ at → walk_from s stop f at n ≡ Ok n
   unfolding walk_from
   walk_end zero h = refl
   walk_end (suc f) h = rw (le-leb _ _ h)
@@ -127,8 +125,8 @@ module _ (s rest : List ℕ) where
 -- ---- the count and the views
 
 -- a packet whose blocks end where its header says
-pub count-blocks : (r : Reading) (s rest : List ℕ) (bs : List (List ℕ)) (stop : ℕ) → header_of r s ≡ Done stop
-    → stop ≡ 8 + length (joined bs) → Each Announces bs → Stands s 8 bs rest → count_of r s ≡ Done (length bs)
+pub count-blocks : (r : Reading) (s rest : List ℕ) (bs : List (List ℕ)) (stop : ℕ) → header_of r s ≡ Ok stop
+    → stop ≡ 8 + length (joined bs) → Each Announces bs → Stands s 8 bs rest → count_of r s ≡ Ok (length bs)
 unfolding count_of
 count-blocks r s rest bs stop h e a w =
     let j : 4 * length bs ≤ length (joined bs) = length-joined bs a in
@@ -138,12 +136,12 @@ count-blocks r s rest bs stop h e a w =
     (walk-blocks s rest bs stop 8 0 (length s) (length s - length bs) w a (omega arith) (omega arith)
     ∙ walk_end s stop (8 + length (joined bs)) (0 + length bs) (length s - length bs) (omega arith) ∙ rw zero-add)
 
-pub locate-block : (r : Reading) (s : List ℕ) (n k : ℕ) → count_of r s ≡ Done n → k < n
-    → locate r s k ≡ At (place_of s k) (size_at r s (place_of s k))
+pub locate-block : (r : Reading) (s : List ℕ) (n k : ℕ) → count_of r s ≡ Ok n → k < n
+    → locate r s k ≡ Ok (place_of s k, size_at r s (place_of s k))
 unfolding locate
 locate-block r s n k c h = rw (c, lt-ltb _ _ h)
 
-pub view-block : (s rest : List ℕ) (bs : List (List ℕ)) (k : ℕ) → count_of Standard s ≡ Done (length bs)
-    → Each Announces bs → Stands s 8 bs rest → k < length bs → view_of Standard s k ≡ shown (get_or bs k [])
+pub view-block : (s rest : List ℕ) (bs : List (List ℕ)) (k : ℕ) → count_of Standard s ≡ Ok (length bs)
+    → Each Announces bs → Stands s 8 bs rest → k < length bs → view_of Standard s k ≡ Ok (get_or bs k [])
 view-block s rest bs k c a e h =
-    rw (locate-block Standard s (length bs) k c h) (ap shown (block-part s rest bs a e k h))
+    rw (locate-block Standard s (length bs) k c h) (ap Ok (block-part s rest bs a e k h))

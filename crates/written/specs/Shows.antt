@@ -2,9 +2,7 @@
 --     record_at     record k of a list, the header record counted; a cut one past the end
 --     blocks_in     how many records ask for a block: all but the header record
 --     Shows        what the packet s shows of the records js that asked for it
-use Rattle.std.specs.Prelude.{ℕ, ◌+◌, ◌-◌, ◌<◌, ◌≡◌, true, List, length, get_or}
-use Rattle.def_refusals.specs.declared.Answer.TheVariants.{Done}
-use Rattle.def_refusals.specs.Answers.{shown}
+use Rattle.std.specs.Prelude.{ℕ, ◌+◌, ◌-◌, ◌<◌, ◌≡◌, true, List, length, get_or, Ok}
 use Rattle.def_wire.specs.declared.Reading.TheVariants.{Standard}
 use Rattle.def_wire.specs.Packet.{ssrc_of, count_of, view_of}
 use Rattle.def_jobs.specs.declared.Layout.{Layout}
@@ -21,10 +19,10 @@ blocks_in js = length js - 1
 pub record Shows (layout : Layout) (js : List Job) (s : List ℕ) : Type 0 where
   -- it is the records' layout, and accepted, with one block for each record but the header record
   pub laid : s ≡ layout_of layout js
-  pub counted : count_of Standard s ≡ Done (blocks_in js)
+  pub counted : count_of Standard s ≡ Ok (blocks_in js)
   -- the sender's SSRC is the header record's
   pub sender : ssrc_of s ≡ sender_of (record_at js 0)
   -- record k + 1 asks for a block; block k has its bytes, and shows what it asks
   pub asks : (k : ℕ) → k < blocks_in js → is_block_job (record_at js (k + 1)) ≡ true
-  pub viewed : (k : ℕ) → k < blocks_in js → view_of Standard s k ≡ shown (block_bytes layout (record_at js (k + 1)))
-  pub shows : (k : ℕ) → k < blocks_in js → shown_in Standard s k ≡ shown (asked_of (record_at js (k + 1)))
+  pub viewed : (k : ℕ) → k < blocks_in js → view_of Standard s k ≡ Ok (block_bytes layout (record_at js (k + 1)))
+  pub shows : (k : ℕ) → k < blocks_in js → shown_in Standard s k ≡ Ok (asked_of (record_at js (k + 1)))

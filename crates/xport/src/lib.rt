@@ -4,7 +4,6 @@
 #![tactic(auto)]
 
 ghost use Rattle.std.specs.Prelude.{◌≡◌, length};
-ghost use Rattle.def_refusals.specs.Answers.{refused};
 ghost use Rattle.def_wire.specs.Packet.{count_of, locate};
 ghost use Rattle.def_wire.specs.Block.{rle_of, ranged_of, fields_of, time_of};
 ghost use Rattle.def_standard.specs.Chunks.{chunk_of, word_bytes};
@@ -23,11 +22,9 @@ ghost use Rattle.states.specs.Steps.{start};
 
 use def_cursor::Cursor;
 use def_jobs::Layout;
-use def_refusals::Answer;
-use def_wire::{FieldsOr, Located};
 use flat::{Flat, FlatBlock, FlatFields, FlatFollowed, FlatStretch, FlatSummary};
 use states::Portions;
-use xr::{Parsed, Xr};
+use xr::Xr;
 
 // How many blocks a packet has: 1 to 6.
 #[unsafe(no_mangle)]
@@ -70,16 +67,16 @@ pub extern "C" fn xr_numbers(r: u8, packet: &[u8], k: usize, t: u8, out: &mut [u
 {
     let q = flat::reading(r);
     match xr::header(q, packet) {
-        Answer::Done(stop) => match xr::find(q, packet, stop, k) {
-            Located::At(at, n) => flat::answer(by_number::numbers_view(
+        Ok(stop) => match xr::find(q, packet, stop, k) {
+            Ok((at, n)) => flat::answer(by_number::numbers_view(
                 q,
                 t,
                 utils::part(packet, at, n),
                 out,
             )),
-            Located::Missing(x) => flat::refusal(x),
+            Err(x) => flat::refusal(x),
         },
-        Answer::Refused(x) => flat::refusal(x),
+        Err(x) => flat::refusal(x),
     }
 }
 
@@ -221,12 +218,12 @@ pub extern "C" fn xr_parse(r: u8, packet: &[u8]) -> Flat
     ensures { result ≡ flat_parsed packet.now (count_of (reading_of r) packet.now) }
 {
     match Xr::parse(flat::reading(r), packet) {
-        Parsed::Packet(p) => Flat {
+        Ok(p) => Flat {
             code: 0,
             first: p.blocks as u64,
             second: p.ssrc as u64,
         },
-        Parsed::Unread(x) => flat::refusal(x),
+        Err(x) => flat::refusal(x),
     }
 }
 
@@ -254,7 +251,7 @@ pub extern "C" fn xr_block_at(r: u8, packet: &[u8], at: usize) -> FlatBlock
 #[unsafe(no_mangle)]
 pub extern "C" fn xr_fields_view(r: u8, t: u8, view: &[u8]) -> FlatFields
     ensures { result ≡ flat_fields (on_ranged (ranged_of t) (λ g. fields_of (reading_of r) g view.now)
-        (FieldsOr.NoneOf (not_served view.now))) }
+        (Err (not_served view.now))) }
 {
     flat::fields(by_number::fields_view(flat::reading(r), t, view))
 }
@@ -287,7 +284,7 @@ pub extern "C" fn xr_time_view(r: u8, view: &[u8]) -> Flat
 #[unsafe(no_mangle)]
 pub extern "C" fn xr_words_view(r: u8, t: u8, view: &[u8], out: &mut [u16]) -> Flat
     ensures { FlatListed (on_rle (rle_of t) (λ b. words_shown (reading_of r) b view.now)
-        (refused (not_served view.now))) out.old result out.new }
+        (Err (not_served view.now))) out.old result out.new }
 {
     flat::answer(by_number::words_view(flat::reading(r), t, view, out))
 }

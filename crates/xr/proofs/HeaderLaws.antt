@@ -1,4 +1,5 @@
 -- The laws of `header_of`: each way in which it ends, with the tests that lead there as premises.
+use Rattle.std.specs.Prelude.{Ok, Err}
 use Prim.Native.Nat.{ℕ, ◌-◌, ◌/◌, ◌%◌, ◌≤◌, ◌<◌}
 use mathlib.Core.Path.{◌≡◌, refl, sym}
 use mathlib.Core.Bool.{Bool, true, false, cond, not, ◌||◌}
@@ -7,11 +8,11 @@ use native.Mathlib.Omega.{arith}
 use lib.ListN.{length}
 use lib.Dec.{ltb, eqb}
 use borrow.Author.Tests.{lt-ltb, le-ltb, eq-eqb, ne_eqb, ltb-false, eqb-true, not-false}
+use Rattle.def_refusals.specs.Answers.{Or}
 use Rattle.laws.proofs.Tests.{by-test, true≢false}
 use Rattle.def_refusals.specs.declared.Refusal.{Refusal}
 use Rattle.def_refusals.specs.declared.Refusal.TheVariants.{TooShort, WrongVersion, WrongPacketType, WrongLength}
 use Rattle.def_refusals.specs.declared.Refusal.TheVariants.{BadPadding}
-use Rattle.def_refusals.specs.declared.Answer.TheVariants.{Done, Refused}
 use Rattle.def_wire.specs.declared.Reading.{Reading}
 use Rattle.def_wire.specs.declared.Reading.TheVariants.{Standard, Crate}
 use Rattle.def_wire.specs.Bytes.{byte_at}
@@ -23,38 +24,38 @@ least-ge Standard = omega arith
 least-ge Crate = omega arith
 
 module _ (r : Reading) (s : List ℕ) where
-  pub header-short : length s < least_of r → Refused (TooShort (least_of r) (length s)) ≡ header_of r s
+  pub header-short : length s < least_of r → Err (TooShort (least_of r) (length s)) ≡ header_of r s
   unfolding header_of
   header-short h = rw (lt-ltb _ _ h)
 
   module _ (long : least_of r ≤ length s) where
-    pub header-version : (version_of s ≡ 2 → ⊥) → Refused WrongVersion ≡ header_of r s
+    pub header-version : (version_of s ≡ 2 → ⊥) → Err WrongVersion ≡ header_of r s
     unfolding header_of
     header-version v = rw (le-ltb _ _ long, ne_eqb _ _ v)
 
     module _ (v : version_of s ≡ 2) where
-      pub header-type : (byte_at s 1 ≡ 207 → ⊥) → Refused WrongPacketType ≡ header_of r s
+      pub header-type : (byte_at s 1 ≡ 207 → ⊥) → Err WrongPacketType ≡ header_of r s
       unfolding header_of
       header-type t = rw (le-ltb _ _ long, eq-eqb _ _ v, ne_eqb _ _ t)
 
       module _ (t : byte_at s 1 ≡ 207) where
-        pub header-length : (announced_of s ≡ length s → ⊥) → Refused (WrongLength (announced_of s) (length s))
+        pub header-length : (announced_of s ≡ length s → ⊥) → Err (WrongLength (announced_of s) (length s))
             ≡ header_of r s
         unfolding header_of
         header-length l = rw (le-ltb _ _ long, eq-eqb _ _ v, eq-eqb _ _ t, ne_eqb _ _ l)
 
         module _ (l : announced_of s ≡ length s) where
           pub header-padding : (byte_at s 0 / 32 % 2 ≡ 1) → is_bad_padding (padding_of s) (length s) ≡ true
-              → Refused (BadPadding (padding_of s)) ≡ header_of r s
+              → Err (BadPadding (padding_of s)) ≡ header_of r s
           unfolding header_of
           header-padding p b = rw (le-ltb _ _ long, eq-eqb _ _ v, eq-eqb _ _ t, eq-eqb _ _ l, eq-eqb _ _ p, b)
 
           pub header-padded : (byte_at s 0 / 32 % 2 ≡ 1) → is_bad_padding (padding_of s) (length s) ≡ false
-              → Done (stop_of r s) ≡ header_of r s
+              → Ok (stop_of r s) ≡ header_of r s
           unfolding header_of
           header-padded p b = rw (le-ltb _ _ long, eq-eqb _ _ v, eq-eqb _ _ t, eq-eqb _ _ l, eq-eqb _ _ p, b)
 
-          pub header-plain : (byte_at s 0 / 32 % 2 ≡ 1 → ⊥) → Done (stop_of r s) ≡ header_of r s
+          pub header-plain : (byte_at s 0 / 32 % 2 ≡ 1 → ⊥) → Ok (stop_of r s) ≡ header_of r s
           unfolding header_of
           header-plain p = rw (le-ltb _ _ long, eq-eqb _ _ v, eq-eqb _ _ t, eq-eqb _ _ l, ne_eqb _ _ p)
 
@@ -87,10 +88,10 @@ pub record Fine (s : List ℕ) (stop : ℕ) : Type 0 where
   pub whole : stop % 4 ≡ 0
   pub least : 8 ≤ stop
 
-no : {P : Type 0} {x : Refusal} {n : ℕ} → Refused x ≡ Done n → P
+no : {P : Type 0} {x : Refusal} {n : ℕ} → ◌≡◌ {A = Or ℕ} (Err x) (Ok n) → P
 no {x = x} {n = n} e = let z : ◌≡◌ {A = ℕ} 0 1 = cc in absurd (omega arith)
 
-done-eq : {m n : ℕ} → Done m ≡ Done n → m ≡ n
+done-eq : {m n : ℕ} → ◌≡◌ {A = Or ℕ} (Ok m) (Ok n) → m ≡ n
 done-eq e = cc
 
 fine-stop : (r : Reading) (s : List ℕ) → 8 ≤ length s → announced_of s ≡ length s
@@ -102,7 +103,7 @@ fine-stop Standard s h l b =
     rw p (record { within = omega arith; whole = omega (arith, l, k.0, k.1); least = omega (arith, k.1) }))
     (λ p g. rw p (record { within = omega arith; whole = omega (arith, l); least = h })) b
 
-pub header-fine : (r : Reading) (s : List ℕ) (stop : ℕ) → header_of r s ≡ Done stop → Fine s stop
+pub header-fine : (r : Reading) (s : List ℕ) (stop : ℕ) → header_of r s ≡ Ok stop → Fine s stop
 unfolding header_of
 header-fine r s stop =
     by-test (ltb (length s) (least_of r)) (λ _ e. no e)

@@ -9,8 +9,8 @@ ghost use Rattle.def_wire.specs.Block.{header_data};
 ghost use Rattle.xr.specs.Parsed.{parsed_of};
 ghost use Rattle.xr.specs.Walks.{Walking, Reach, Walk};
 
-use def_refusals::{Answer, Refusal};
-use def_wire::{Located, Reading};
+use def_refusals::Refusal;
+use def_wire::Reading;
 
 // An accepted packet: how many blocks it has, and who sent it.
 #[derive(Drop)]
@@ -19,16 +19,10 @@ pub struct Xr {
     pub ssrc: u32,
 }
 
-#[derive(Drop)]
-pub enum Parsed {
-    Packet(Xr),
-    Unread(Refusal),
-}
-
 // What a walk finds: the count of blocks or why it ends, and where a wanted block begins.
 #[derive(Drop)]
 struct Walked {
-    count: Answer,
+    count: Result<usize, Refusal>,
     place: usize,
 }
 
@@ -44,16 +38,14 @@ impl Xr {
 
     // The packet, where 1 to 6 do not apply. Port of: Xr::parse; differs: the reading is asked, and padding is judged
     // in full.
-    pub fn parse(r: Reading, s: &[u8]) -> Parsed
+    pub fn parse(r: Reading, s: &[u8]) -> Result<Xr, Refusal>
         ensures { result ≡ parsed_of r s.now }
     {
-        match count(r, s) {
-            Answer::Done(n) => Parsed::Packet(Xr {
-                blocks: n,
-                ssrc: utils::u32_from_be_bytes(s, 4),
-            }),
-            Answer::Refused(x) => Parsed::Unread(x),
-        }
+        let blocks = count(r, s)?;
+        Ok(Xr {
+            blocks,
+            ssrc: utils::u32_from_be_bytes(s, 4),
+        })
     }
 }
 
@@ -81,19 +73,7 @@ fn length_at(s: &[u8], at: usize) -> usize
 fn length_of(hi: u8, lo: u8) -> usize
     ensures { (result ≡ (hi * 256 + lo + 1) * 4) × (result ≤ 262144) }
 {
-    (wide16(utils::pair(hi, lo)) + 1) * 4
-}
-
-fn wide16(x: u16) -> usize
-    ensures { (result ≡ x) × (result < 65536) }
-{
-    x as usize
-}
-
-fn wide8(x: u8) -> usize
-    ensures { (result ≡ x) × (result < 256) }
-{
-    x as usize
+    (usize::from(utils::pair(hi, lo)) + 1) * 4
 }
 
 fn is_bad_padding(n: usize, len: usize) -> bool
@@ -110,35 +90,35 @@ fn is_bad_padding(n: usize, len: usize) -> bool
 }
 
 // Where the blocks end, or the first of 1 to 5 that applies. Port of: utils.rs check_packet; differs: row 5 in full.
-pub fn header(r: Reading, s: &[u8]) -> Answer
+pub fn header(r: Reading, s: &[u8]) -> Result<usize, Refusal>
     ensures { result ≡ header_of r s.now }
 {
     let fewest = least(r);
     if s.len() < fewest {
-        return Answer::Refused(Refusal::TooShort(fewest, s.len()));
+        return Err(Refusal::TooShort(fewest, s.len()));
     }
     let first = s[0];
     let kind = s[1];
     if first / 64 != 2 {
-        return Answer::Refused(Refusal::WrongVersion);
+        return Err(Refusal::WrongVersion);
     }
     if kind != Xr::PACKET_TYPE {
-        return Answer::Refused(Refusal::WrongPacketType);
+        return Err(Refusal::WrongPacketType);
     }
     let says = length_at(s, 0);
     if says != s.len() {
-        return Answer::Refused(Refusal::WrongLength(says, s.len()));
+        return Err(Refusal::WrongLength(says, s.len()));
     }
     if first / 32 % 2 != 1 {
-        return Answer::Done(s.len());
+        return Ok(s.len());
     }
-    let n = wide8(s[s.len() - 1]);
+    let n = usize::from(s[s.len() - 1]);
     if is_bad_padding(n, s.len()) {
-        return Answer::Refused(Refusal::BadPadding(n));
+        return Err(Refusal::BadPadding(n));
     }
     match r {
-        Reading::Standard => Answer::Done(s.len() - n),
-        Reading::Crate => Answer::Done(s.len()),
+        Reading::Standard => Ok(s.len() - n),
+        Reading::Crate => Ok(s.len()),
     }
 }
 
@@ -148,32 +128,30 @@ fn reach(s: &[u8], stop: usize, k: usize) -> Walked
     ensures { Reach s.now stop k result.count result.place }
 {
     let mut at: usize = 8;
-    let mut n: usize = 0;
-    while n < k {
+    for n in 0..k {
         if stop <= at {
             return Walked {
-                count: Answer::Done(n),
+                count: Ok(n),
                 place: at,
             };
         }
         let len = length_at(s, at);
         if stop - at < len {
             return Walked {
-                count: Answer::Refused(Refusal::BlockTooLong(len, stop - at)),
+                count: Err(Refusal::BlockTooLong(len, stop - at)),
                 place: at,
             };
         }
         at += len;
-        n += 1;
     }
     Walked {
-        count: Answer::Done(n),
+        count: Ok(k),
         place: at,
     }
 }
 
 // The walk from a block on to where the blocks end. Nothing is noted here, since most of a walk is this.
-fn walk_on(s: &[u8], stop: usize, from: usize, passed: usize) -> Answer
+fn walk_on(s: &[u8], stop: usize, from: usize, passed: usize) -> Result<usize, Refusal>
     requires { (stop ≤ length s.now) × (stop % 4 ≡ 0) × Walking s.now stop from passed }
     ensures { result ≡ walk_from s.now stop (length s.now) 8 0 }
 {
@@ -183,13 +161,13 @@ fn walk_on(s: &[u8], stop: usize, from: usize, passed: usize) -> Answer
     while left != 0 {
         let len = length_at(s, at);
         if left < len {
-            return Answer::Refused(Refusal::BlockTooLong(len, left));
+            return Err(Refusal::BlockTooLong(len, left));
         }
         at += len;
         left -= len;
         n += 1;
     }
-    Answer::Done(n)
+    Ok(n)
 }
 
 // The walk to where the blocks end, noting where block k begins.
@@ -201,67 +179,56 @@ fn walk(s: &[u8], stop: usize, k: usize) -> Walked
     let passed = w.count;
     let place = w.place;
     match passed {
-        Answer::Done(n) => Walked {
+        Ok(n) => Walked {
             count: walk_on(s, stop, place, n),
             place,
         },
-        Answer::Refused(x) => Walked {
-            count: Answer::Refused(x),
+        Err(x) => Walked {
+            count: Err(x),
             place,
         },
     }
 }
 
 // How many blocks the packet has, or the first of 1 to 6 that applies. Port of: Xr::parse.
-pub fn count(r: Reading, s: &[u8]) -> Answer
+pub fn count(r: Reading, s: &[u8]) -> Result<usize, Refusal>
     ensures { result ≡ count_of r s.now }
 {
-    match header(r, s) {
-        Answer::Done(stop) => {
-            let w = walk(s, stop, 0);
-            w.count
-        }
-        Answer::Refused(x) => Answer::Refused(x),
-    }
+    let stop = header(r, s)?;
+    let w = walk(s, stop, 0);
+    w.count
 }
 
 // The same as `locate`, for a caller that has asked the header: 6 or 9. Port of: XrBlockIter::next.
-pub fn find(r: Reading, s: &[u8], stop: usize, k: usize) -> Located
-    requires { header_of r s.now ≡ Answer.Done stop }
+pub fn find(r: Reading, s: &[u8], stop: usize, k: usize) -> Result<(usize, usize), Refusal>
+    requires { header_of r s.now ≡ Ok stop }
     ensures { result ≡ locate r s.now k }
 {
     let w = walk(s, stop, k);
-    let n = w.count;
     let place = w.place;
-    match n {
-        Answer::Done(n) => {
-            if k < n {
-                return at_place(r, s, place);
-            }
-            Located::Missing(Refusal::NoBlock(n))
-        }
-        Answer::Refused(x) => Located::Missing(x),
+    let n = w.count?;
+    if k < n {
+        return at_place(r, s, place);
     }
+    Err(Refusal::NoBlock(n))
 }
 
-// Where block k's view lies, or the first of 1 to 6 and 9 that applies.
-pub fn locate(r: Reading, s: &[u8], k: usize) -> Located
+// Where block k's view lies, its first byte and how many bytes it has, or the first of 1 to 6 and 9 that applies.
+pub fn locate(r: Reading, s: &[u8], k: usize) -> Result<(usize, usize), Refusal>
     ensures { result ≡ locate r s.now k }
 {
-    match header(r, s) {
-        Answer::Done(stop) => find(r, s, stop, k),
-        Answer::Refused(x) => Located::Missing(x),
-    }
+    let stop = header(r, s)?;
+    find(r, s, stop, k)
 }
 
 // A block's view: its own L bytes, or everything left.
-fn at_place(r: Reading, s: &[u8], place: usize) -> Located
+fn at_place(r: Reading, s: &[u8], place: usize) -> Result<(usize, usize), Refusal>
     requires { place + 4 ≤ length s.now }
-    ensures { result ≡ Located.At place (size_at r s.now place) }
+    ensures { result ≡ Ok (place, size_at r s.now place) }
 {
     match r {
-        Reading::Standard => Located::At(place, length_at(s, place)),
-        Reading::Crate => Located::At(place, s.len() - place),
+        Reading::Standard => Ok((place, length_at(s, place))),
+        Reading::Crate => Ok((place, s.len() - place)),
     }
 }
 
@@ -271,8 +238,8 @@ pub fn view(r: Reading, s: &[u8], k: usize) -> &[u8]
     ensures ref_ptr_value { result.ref_ptr ≡ part_at s.entry.ref_ptr (locate r s.now k) }
 {
     match locate(r, s, k) {
-        Located::At(at, n) => utils::part(s, at, n),
-        Located::Missing(_) => utils::part(s, 0, 0),
+        Ok((at, n)) => utils::part(s, at, n),
+        Err(_) => utils::part(s, 0, 0),
     }
 }
 

@@ -4,7 +4,6 @@
 // packet prints `cut`. Both then say so on standard error, by which ./xrfollow knows that the run ended badly.
 #![tactic(auto)]
 
-use def_refusals::Checked;
 use states::Portions;
 use std::io::{Read, Stdin};
 
@@ -18,212 +17,117 @@ const PIECE: usize = 4096;
 
 const TURNS: u64 = 18446744073709551615;
 
-// Where the stream stands: the packet's state, whether a byte of it has come, whether the run goes on, and what waits
-// in the buffer.
+// The most events of one byte, with room to spare.
+const EVENTS: usize = 16384;
+
+// Where the stream stands.
 #[derive(Drop)]
-struct Course {
-    state: Portions,
-    inside: bool,
-    goes_on: bool,
+enum Course {
+    // no byte of the next packet has come
+    Between,
+    // some of its bytes have
+    Inside(Portions),
+    // a packet was refused, and the place of the next one is lost
+    Lost,
+}
+
+// The four lists of a byte's events, and the text, of which `at` bytes wait.
+#[derive(Drop)]
+struct Room {
+    tags: [u64; EVENTS],
+    numbers: [u16; EVENTS],
+    values: [u64; EVENTS],
+    sums: [u64; 49152],
+    buf: [u8; 65536],
     at: usize,
 }
 
-// One byte: room for 16,384 events is enough, whatever it is.
-fn one(
-    st: Portions,
-    x: &[u8],
-    tags: &mut [u64],
-    numbers: &mut [u16],
-    values: &mut [u64],
-    sums: &mut [u64],
-    buf: &mut [u8],
-    at: usize,
-) -> Course {
-    let r = portions::follow(st, x, tags, numbers, values, sums);
-    let n = event_lines::event_lines(buf, at, tags, numbers, values, sums, r.events);
-    let s = r.state;
-    let c = r.refusal;
-    match c {
-        Checked::Unfit(y) => Course {
-            state: s,
-            inside: true,
-            goes_on: false,
-            at: lines::refusal_line(buf, n, y),
-        },
-        Checked::Fine => {
-            if s.item == states::OVER {
-                return Course {
-                    state: steps::start(),
-                    inside: false,
-                    goes_on: true,
-                    at: n,
-                };
-            }
-            Course {
-                state: s,
-                inside: true,
-                goes_on: true,
-                at: n,
-            }
+// One byte of the packet at hand, and its events' lines.
+fn one(st: Portions, x: u8, room: &mut Room) -> Course {
+    let r = portions::follow(
+        st,
+        &[x],
+        &mut room.tags,
+        &mut room.numbers,
+        &mut room.values,
+        &mut room.sums,
+    );
+    room.at = event_lines::event_lines(
+        &mut room.buf,
+        room.at,
+        &room.tags,
+        &room.numbers,
+        &room.values,
+        &room.sums,
+        r.events,
+    );
+    match r.refusal {
+        Err(y) => {
+            room.at = lines::refusal_line(&mut room.buf, room.at, y);
+            Course::Lost
         }
+        Ok(()) if r.state.item == states::OVER => Course::Between,
+        Ok(()) => Course::Inside(r.state),
     }
 }
 
-// The bytes that one read gave, one after the other.
-fn piece(
-    c: Course,
-    x: &[u8],
-    tags: &mut [u64],
-    numbers: &mut [u16],
-    values: &mut [u64],
-    sums: &mut [u64],
-    buf: &mut [u8],
-) -> Course {
-    let mut at: usize = 0;
+// The bytes that one read gave, one after the other, as far as the stream can be followed.
+fn piece(c: Course, bytes: &[u8], room: &mut Room) -> Course {
     let mut now = c;
-    while at < x.len() {
-        if !now.goes_on {
-            return now;
-        }
-        let next = at + 1;
-        let st = now.state;
-        now = one(
-            st,
-            utils::part(x, at, 1),
-            tags,
-            numbers,
-            values,
-            sums,
-            buf,
-            now.at,
-        );
-        at = next;
+    for x in bytes {
+        now = match now {
+            Course::Between => one(steps::start(), *x, room),
+            Course::Inside(st) => one(st, *x, room),
+            Course::Lost => return Course::Lost,
+        };
     }
     now
 }
 
-// The end of the input, or an input that cannot be read.
-fn ended(inside: bool, failed: bool) {
-    if failed {
-        io::write_all(STDERR_FILENO, b"xrfollow: standard input cannot be read\n");
-        return;
-    }
-    if inside {
+// The end of the input.
+fn ended(c: Course) {
+    if matches!(c, Course::Inside(_)) {
         io::write_all(STDOUT_FILENO, b"cut\n");
         io::write_all(STDERR_FILENO, b"xrfollow: the input ends inside a packet\n");
     }
 }
 
-// What a refused packet comes to.
-fn lost() {
-    io::write_all(
-        STDERR_FILENO,
-        b"xrfollow: the packet is refused, and where the next one begins is not known\n",
-    );
-}
-
-// The lines of the bytes that a read gave; none at the input's end.
-fn told(
-    c: Course,
-    failed: bool,
-    x: &[u8],
-    tags: &mut [u64],
-    numbers: &mut [u16],
-    values: &mut [u64],
-    sums: &mut [u64],
-    buf: &mut [u8],
-) -> Course {
-    if x.len() == 0 {
-        ended(c.inside, failed);
-        let s = c.state;
-        return Course {
-            state: s,
-            inside: false,
-            goes_on: false,
-            at: 0,
-        };
-    }
-    let d = piece(c, x, tags, numbers, values, sums, buf);
-    let at = print::flush(buf, d.at);
-    if !d.goes_on {
-        lost();
-    }
-    let s = d.state;
-    Course {
-        state: s,
-        inside: d.inside,
-        goes_on: d.goes_on,
-        at,
-    }
-}
-
-// One read, and the lines of its bytes.
-fn turn(
-    from: &mut Stdin,
-    c: Course,
-    input: &mut [u8],
-    tags: &mut [u64],
-    numbers: &mut [u16],
-    values: &mut [u64],
-    sums: &mut [u64],
-    buf: &mut [u8],
-) -> Course {
-    let read = from.read(input);
-    let failed = read.is_err();
-    let n = read.unwrap_or(0);
-    told(
-        c,
-        failed,
-        utils::part(input, 0, n),
-        tags,
-        numbers,
-        values,
-        sums,
-        buf,
-    )
-}
-
-// As many reads as the input has.
-fn run(
-    stdin: Stdin,
-    input: &mut [u8],
-    tags: &mut [u64],
-    numbers: &mut [u16],
-    values: &mut [u64],
-    sums: &mut [u64],
-    buf: &mut [u8],
-) {
+// As many reads as the input has, each with its lines.
+fn run(stdin: Stdin, room: &mut Room) {
     let mut from = stdin;
-    let mut left = TURNS;
-    let mut c = Course {
-        state: steps::start(),
-        inside: false,
-        goes_on: true,
-        at: 0,
-    };
-    while 0 < left {
-        c = turn(&mut from, c, input, tags, numbers, values, sums, buf);
-        if !c.goes_on {
+    let mut input = [0u8; PIECE];
+    let mut c = Course::Between;
+    for _turn in 0..TURNS {
+        match from.read(&mut input) {
+            Err(_) => {
+                io::write_all(STDERR_FILENO, b"xrfollow: standard input cannot be read\n");
+                return;
+            }
+            Ok(0) => {
+                ended(c);
+                return;
+            }
+            Ok(n) => c = piece(c, &input[..n], room),
+        }
+        room.at = print::flush(&room.buf, room.at);
+        if matches!(c, Course::Lost) {
+            io::write_all(
+                STDERR_FILENO,
+                b"xrfollow: the packet is refused, and where the next one begins is not known\n",
+            );
             return;
         }
-        left -= 1;
     }
 }
 
 fn main(rt: HostRuntime) {
-    let mut input = [0u8; PIECE];
-    let mut tags = [0u64; 16384];
-    let mut numbers = [0u16; 16384];
-    let mut values = [0u64; 16384];
-    let mut sums = [0u64; 49152];
-    let mut buf = [0u8; 65536];
-    run(
-        rt.stdin(),
-        &mut input,
-        &mut tags,
-        &mut numbers,
-        &mut values,
-        &mut sums,
-        &mut buf,
-    );
+    let mut room = Room {
+        tags: [0; EVENTS],
+        numbers: [0; EVENTS],
+        values: [0; EVENTS],
+        sums: [0; 49152],
+        buf: [0; 65536],
+        at: 0,
+    };
+    run(rt.stdin(), &mut room);
 }

@@ -1,6 +1,4 @@
 // The program's arguments: begin, the media SSRC and the sender's, in decimal.
-ghost use Rattle.std.specs.Prelude.{◌≤◌};
-
 use std::env::{Env, FillError};
 
 // What the marks are reported with.
@@ -11,63 +9,28 @@ pub struct Report {
     pub sender: u32,
 }
 
-// What the arguments ask for.
-#[derive(Drop)]
-pub enum Asked {
-    For(Report),
-    Nothing,
-}
-
-// Whether an argument is a number up to the most that it may be, and that number.
-#[derive(Drop)]
-struct Number {
-    good: bool,
-    value: u64,
-}
-
-fn no_number() -> Number
-    ensures { result.value ≤ 0 }
-{
-    Number {
-        good: false,
-        value: 0,
+// One or more digits, and no sign.
+fn digits(word: &[u8]) -> Option<u64> {
+    if word.is_empty() {
+        return None;
     }
-}
-
-// A digit's value, or 10.
-fn digit(b: u8) -> u64
-    ensures { result ≤ 10 }
-{
-    if b < b'0' {
-        return 10;
-    }
-    if b'9' < b {
-        return 10;
-    }
-    (b - b'0') as u64
-}
-
-// One or more digits.
-fn digits(word: &[u8], most: u64) -> Number
-    requires { most ≤ 4294967295 }
-    ensures { result.value ≤ most }
-{
     let mut value: u64 = 0;
-    let mut i: usize = 0;
-    while i < word.len() {
-        let d = digit(word[i]);
-        if 9 < d {
-            return no_number();
+    for b in word {
+        if !b.is_ascii_digit() {
+            return None;
         }
-        value = value * 10 + d;
-        if most < value {
-            return no_number();
-        }
-        i += 1;
+        value = value.checked_mul(10)?.checked_add(u64::from(*b - b'0'))?;
     }
-    Number {
-        good: 0 < word.len(),
-        value,
+    Some(value)
+}
+
+// The argument at a place, or 0 where none is given. One of more than ten bytes is no number.
+fn argument(rt: &impl Env, at: usize) -> Option<u64> {
+    let mut word = [0u8; 10];
+    match rt.arg(at, &mut word) {
+        Ok(n) => digits(&word[..n]),
+        Err(FillError::NotPresent) => Some(0),
+        Err(_) => None,
     }
 }
 
@@ -77,41 +40,14 @@ fn is_given(rt: &impl Env, at: usize) -> bool {
     !matches!(rt.arg(at, &mut none), Err(FillError::NotPresent))
 }
 
-// The argument at a place, or 0 where none is given. One of more than ten bytes counts as empty.
-fn argument(rt: &impl Env, at: usize, most: u64) -> Number
-    requires { most ≤ 4294967295 }
-    ensures { result.value ≤ most }
-{
-    if !is_given(rt, at) {
-        return Number {
-            good: true,
-            value: 0,
-        };
-    }
-    let mut word = [0u8; 10];
-    let n = rt.arg(at, &mut word).unwrap_or(0);
-    digits(utils::part(&word, 0, n), most)
-}
-
-pub fn arguments(rt: &impl Env) -> Asked {
-    let begin = argument(rt, 1, 65535);
-    let media = argument(rt, 2, 4294967295);
-    let sender = argument(rt, 3, 4294967295);
+// At most three numbers, of 16, 32 and 32 bits.
+pub fn arguments(rt: &impl Env) -> Option<Report> {
     if is_given(rt, 4) {
-        return Asked::Nothing;
+        return None;
     }
-    if !begin.good {
-        return Asked::Nothing;
-    }
-    if !media.good {
-        return Asked::Nothing;
-    }
-    if !sender.good {
-        return Asked::Nothing;
-    }
-    Asked::For(Report {
-        begin: begin.value as u16,
-        media: media.value as u32,
-        sender: sender.value as u32,
+    Some(Report {
+        begin: u16::try_from(argument(rt, 1)?).ok()?,
+        media: u32::try_from(argument(rt, 2)?).ok()?,
+        sender: u32::try_from(argument(rt, 3)?).ok()?,
     })
 }

@@ -8,8 +8,8 @@
 mod arguments;
 mod input;
 
-use arguments::{Asked, Report};
-use def_refusals::{Answer, Refusal};
+use arguments::Report;
+use def_refusals::Refusal;
 use std::io::Stdin;
 
 // The file descriptor of standard error.
@@ -42,8 +42,8 @@ fn show(words: &[u16], packet: &[u8], size: usize) {
 fn write(words: &[u16], list: &[u8]) {
     let mut packet = [0u8; PACKET];
     match write::write_careful(list, &mut packet) {
-        Answer::Done(n) => show(words, &packet, n),
-        Answer::Refused(x) => refused(x),
+        Ok(n) => show(words, &packet, n),
+        Err(x) => refused(x),
     }
 }
 
@@ -51,17 +51,9 @@ fn write(words: &[u16], list: &[u8]) {
 fn ask(r: Report, end: u16, words: &[u16]) {
     let mut list = [0u8; LIST];
     match loss_list::loss_list(r.sender, r.media, r.begin, end, words, &mut list) {
-        Answer::Done(n) => write(words, utils::part(&list, 0, n)),
-        Answer::Refused(x) => refused(x),
+        Ok(n) => write(words, utils::part(&list, 0, n)),
+        Err(x) => refused(x),
     }
-}
-
-// The first n of a list, or as many as there are.
-fn first(list: &[u16], n: usize) -> &[u16] {
-    if n <= list.len() {
-        return &list[0..n];
-    }
-    list
 }
 
 // The words of the marks, their job list, its packet.
@@ -69,30 +61,27 @@ fn report(r: Report, marks: &[u8]) {
     let end = ((r.begin as usize + marks.len()) % 65536) as u16;
     let mut words = [0u16; WORDS];
     match marks::words(marks, &mut words) {
-        Answer::Done(n) => ask(r, end, first(&words, n)),
-        Answer::Refused(x) => refused(x),
+        Ok(n) => ask(r, end, &words[..n.min(WORDS)]),
+        Err(x) => refused(x),
     }
 }
 
 // Of more marks than are taken, those behind the last place were only counted: 14, whatever they are.
 fn run(stdin: Stdin, r: Report) {
     let mut marks = [0u8; MARKS];
-    let read = input::read_marks(stdin, &mut marks);
-    if !read.whole {
-        io::write_all(STDERR_FILENO, b"xrmarks: standard input cannot be read\n");
-        return;
-    }
-    if MARKS < read.count {
-        refused(Refusal::TooMany(read.count, MARKS));
-    } else {
-        report(r, utils::part(&marks, 0, read.count));
+    match input::read_marks(stdin, &mut marks) {
+        Err(_) => {
+            io::write_all(STDERR_FILENO, b"xrmarks: standard input cannot be read\n");
+        }
+        Ok(count) if MARKS < count => refused(Refusal::TooMany(count, MARKS)),
+        Ok(count) => report(r, &marks[..count]),
     }
 }
 
 fn main(rt: HostRuntime) {
     match arguments::arguments(&rt) {
-        Asked::For(r) => run(rt.stdin(), r),
-        Asked::Nothing => {
+        Some(r) => run(rt.stdin(), r),
+        None => {
             io::write_all(
                 STDERR_FILENO,
                 b"xrmarks: at most three decimal numbers are wanted, of 16, 32 and 32 bits\n",

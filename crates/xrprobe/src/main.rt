@@ -4,83 +4,67 @@
 // proved to add to the buffer.
 #![tactic(auto)]
 
+ghost use Rattle.std.specs.Prelude.{◌≤◌, IfOk, length};
+
 // The file descriptor of standard input.
 const STDIN_FILENO: i32 = 0;
 
 // The longest payload.
 const LONGEST: usize = 300000;
 
-// What a request comes to: what waits in the buffer, and whether the run goes on.
+// Why the run ends.
 #[derive(Drop)]
-struct Turn {
-    at: usize,
-    fine: bool,
+enum End {
+    // the input has no more requests
+    Input,
+    // a request is cut off, or longer than is taken
+    Cut,
 }
 
-// A request's answer and its `.`, or the end of the run.
-fn answered(buf: &mut [u8], told: probe::Told) -> Turn {
-    if told.served {
-        return Turn {
-            at: print::text(buf, told.at, b".\n"),
-            fine: true,
-        };
-    }
-    Turn {
-        at: print::text(buf, told.at, b"cut\n"),
-        fine: false,
-    }
-}
-
-fn cut(buf: &mut [u8], at: usize) -> Turn {
-    Turn {
-        at: print::text(buf, at, b"cut\n"),
-        fine: false,
-    }
-}
-
-// One request from standard input.
-fn one_request(request: &mut [u8], buf: &mut [u8], at: usize) -> Turn {
+// The next request's kind and the length of its payload, which then stands at the front of `payload`.
+fn request(payload: &mut [u8]) -> Result<(u8, usize), End>
+    ensures { IfOk result (λ r. r.1 ≤ length payload.new) }
+{
     let mut head = [0u8; 5];
     let got = io::read_full(STDIN_FILENO, &mut head);
     if got == 0 {
-        return Turn { at, fine: false };
+        return Err(End::Input);
     }
     if got < 5 {
-        return cut(buf, at);
+        return Err(End::Cut);
     }
     let long = little_endian::u32_from_le_bytes(&head, 1) as usize;
-    if LONGEST < long {
-        return cut(buf, at);
+    if payload.len() < long {
+        return Err(End::Cut);
     }
-    if request.len() < long {
-        return cut(buf, at);
+    if io::read_full(STDIN_FILENO, &mut payload[..long]) < long {
+        return Err(End::Cut);
     }
-    let read = io::read_full(STDIN_FILENO, &mut request[0..long]);
-    if read < long {
-        return cut(buf, at);
+    Ok((head[0], long))
+}
+
+// As many requests as come; how many bytes of the last answers still wait in the buffer.
+fn run(payload: &mut [u8], buf: &mut [u8]) -> usize {
+    let mut at: usize = 0;
+    for _turn in 0..u64::MAX {
+        match request(payload) {
+            Ok((kind, long)) => {
+                let told = probe::answer(kind, &payload[..long], buf, at);
+                if !told.served {
+                    return print::text(buf, told.at, b"cut\n");
+                }
+                at = print::text(buf, told.at, b".\n");
+            }
+            Err(End::Input) => return at,
+            Err(End::Cut) => return print::text(buf, at, b"cut\n"),
+        }
     }
-    let told = probe::answer(head[0], &request[0..long], buf, at);
-    answered(buf, told)
+    at
 }
 
 fn main() {
-    let mut request = [0u8; LONGEST];
+    let mut payload = [0u8; LONGEST];
     let mut buf = [0u8; 65536];
-    run(&mut request, &mut buf);
-}
-
-// As many requests as come.
-fn run(request: &mut [u8], buf: &mut [u8]) {
-    let mut left: u64 = 18446744073709551615;
-    let mut at: usize = 0;
-    while 0 < left {
-        let t = one_request(request, buf, at);
-        at = t.at;
-        if !t.fine {
-            print::flush(buf, at);
-            return;
-        }
-        left -= 1;
-    }
-    print::flush(buf, at);
+    let at = run(&mut payload, &mut buf);
+    print::flush(&buf, at);
 }

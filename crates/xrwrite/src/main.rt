@@ -4,7 +4,7 @@
 #![tactic(auto)]
 
 use def_jobs::Layout;
-use def_refusals::{Answer, Refusal};
+use def_refusals::Refusal;
 use std::env::{Env, FillError};
 
 // The file descriptor of standard input.
@@ -21,27 +21,15 @@ const INPUT: usize = 300001;
 // The longest packet.
 const MOST: usize = 262144;
 
-// What the arguments ask for.
-#[derive(Drop)]
-enum Asked {
-    In(Layout),
-    Nothing,
-}
-
-// Whether two words of at most eight bytes, none of them 0, are the same: each is read as one number, the bytes past
-// its end as 0.
-fn same(a: &[u8], b: &[u8]) -> bool {
-    utils::u64_from_be_bytes(a, 0) == utils::u64_from_be_bytes(b, 0)
-}
-
-fn named(word: &[u8]) -> Asked {
-    if same(word, b"plain") {
-        return Asked::In(Layout::Plain);
+// The layout that a word names.
+fn named(word: &[u8]) -> Option<Layout> {
+    if word == b"plain".as_slice() {
+        return Some(Layout::Plain);
     }
-    if same(word, b"careful") {
-        return Asked::In(Layout::Careful);
+    if word == b"careful".as_slice() {
+        return Some(Layout::Careful);
     }
-    Asked::Nothing
+    None
 }
 
 // Whether there is an argument at a place; its bytes are not looked at.
@@ -50,14 +38,14 @@ fn is_given(rt: &impl Env, at: usize) -> bool {
     !matches!(rt.arg(at, &mut none), Err(FillError::NotPresent))
 }
 
-// The one argument. One that is longer than eight bytes counts as empty.
-fn argument(rt: &impl Env) -> Asked {
-    let mut word = [0u8; 8];
-    let n = rt.arg(1, &mut word).unwrap_or(0);
-    if is_given(rt, 1) && !is_given(rt, 2) {
-        return named(utils::part(&word, 0, n));
+// The one argument. One that is longer than eight bytes names no layout.
+fn argument(rt: &impl Env) -> Option<Layout> {
+    if is_given(rt, 2) {
+        return None;
     }
-    Asked::Nothing
+    let mut word = [0u8; 8];
+    let n = rt.arg(1, &mut word).ok()?;
+    named(&word[..n])
 }
 
 fn refused(x: Refusal) {
@@ -66,7 +54,7 @@ fn refused(x: Refusal) {
     print::send(STDERR_FILENO, &line, n);
 }
 
-fn packet(layout: Layout, list: &[u8], out: &mut [u8]) -> Answer {
+fn packet(layout: Layout, list: &[u8], out: &mut [u8]) -> Result<usize, Refusal> {
     match layout {
         Layout::Plain => write::write_plain(list, out),
         Layout::Careful => write::write_careful(list, out),
@@ -75,10 +63,10 @@ fn packet(layout: Layout, list: &[u8], out: &mut [u8]) -> Answer {
 
 fn write(layout: Layout, list: &[u8], out: &mut [u8]) {
     match packet(layout, list, out) {
-        Answer::Done(n) => {
+        Ok(n) => {
             print::flush(out, n);
         }
-        Answer::Refused(x) => refused(x),
+        Err(x) => refused(x),
     }
 }
 
@@ -95,8 +83,8 @@ fn run(layout: Layout) {
 
 fn main(rt: HostRuntime) {
     match argument(&rt) {
-        Asked::In(layout) => run(layout),
-        Asked::Nothing => {
+        Some(layout) => run(layout),
+        None => {
             io::write_all(
                 STDERR_FILENO,
                 b"xrwrite: one argument is wanted, plain or careful\n",

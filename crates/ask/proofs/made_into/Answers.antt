@@ -6,5 +6,5 @@ use Rattle.lent.proofs.TellLaws.{listed}
 use Rattle.ask.proofs.made_into.Goals as goal
 
 pub returns : goal.returns
-returns c = reads (listed mark8 word_told _ c.fill8.ensures c.write_chunk-a.ensures)
+returns c = reads (listed mark8 word_told _ c.fill.ensures c.write_chunk-a.ensures)
     c.tell_word.ensures

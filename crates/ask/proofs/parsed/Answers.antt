@@ -3,10 +3,10 @@ use Rattle.print.proofs.AddedLaws.{reads}
 use Rattle.ask.proofs.AskLaws.{parsed-packet, parsed-unread}
 use Rattle.ask.proofs.parsed.Goals as goal
 
-pub returns-in-Packet : goal.returns-in-Packet
-returns-in-Packet c = reads (parsed-packet _ _ _ c.parse.ensures _ c.in-Packet.is)
+pub returns-in-Ok : goal.returns-in-Ok
+returns-in-Ok c = reads (parsed-packet _ _ _ c.parse.ensures _ c.in-Ok.is)
     c.blocks_line.ensures
 
-pub returns-in-Unread : goal.returns-in-Unread
-returns-in-Unread c = reads (parsed-unread _ _ _ c.parse.ensures _ c.in-Unread.is)
+pub returns-in-Err : goal.returns-in-Err
+returns-in-Err c = reads (parsed-unread _ _ _ c.parse.ensures _ c.in-Err.is)
     c.refusal_line.ensures

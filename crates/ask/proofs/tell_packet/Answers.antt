@@ -5,10 +5,10 @@ use Rattle.def_dump.specs.Lines.{packet_line}
 use Rattle.lent.proofs.TellLaws.{list_done, list-refused}
 use Rattle.ask.proofs.tell_packet.Goals as goal
 
-pub returns-in-Done : goal.returns-in-Done
-returns-in-Done c = reads (list_done mark8 packet_line _ _ _ _ c.in-Done.is c.stands8.ensures)
+pub returns-in-Ok : goal.returns-in-Ok
+returns-in-Ok c = reads (list_done mark8 packet_line _ _ _ _ c.in-Ok.is c.stands.ensures)
     (and_then c.packet_line-m.ensures c.said_whole.ensures)
 
-pub returns-in-Refused : goal.returns-in-Refused
-returns-in-Refused c = reads (list-refused mark8 packet_line _ _ _ _ c.in-Refused.is c.stands8-in-Refused.ensures)
-    (and_then c.refusal_line-m.ensures c.said_whole-in-Refused.ensures)
+pub returns-in-Err : goal.returns-in-Err
+returns-in-Err c = reads (list-refused mark8 packet_line _ _ _ _ c.in-Err.is c.stands-in-Err.ensures)
+    (and_then c.refusal_line-m.ensures c.said_whole-in-Err.ensures)

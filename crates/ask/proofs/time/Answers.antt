@@ -4,10 +4,10 @@ use Rattle.print.proofs.AddedLaws.{reads}
 use Rattle.def_probe.specs.Requests.{time_told}
 use Rattle.ask.proofs.time.Goals as goal
 
-pub returns-in-Time : goal.returns-in-Time
-returns-in-Time c = reads (ap time_told (sym c.in-Time.is ∙ c.time_in.ensures))
+pub returns-in-Ok : goal.returns-in-Ok
+returns-in-Ok c = reads (ap time_told (sym c.in-Ok.is ∙ c.time_in.ensures))
     c.time_line.ensures
 
-pub returns-in-NoTime : goal.returns-in-NoTime
-returns-in-NoTime c = reads (ap time_told (sym c.in-NoTime.is ∙ c.time_in.ensures))
+pub returns-in-Err : goal.returns-in-Err
+returns-in-Err c = reads (ap time_told (sym c.in-Err.is ∙ c.time_in.ensures))
     c.refusal_line.ensures

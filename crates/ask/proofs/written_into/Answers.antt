@@ -6,5 +6,5 @@ use Rattle.lent.proofs.TellLaws.{listed}
 use Rattle.ask.proofs.written_into.Goals as goal
 
 pub returns : goal.returns
-returns c = reads (listed mark8 packet_line _ c.fill8.ensures c.write_in-a.ensures)
+returns c = reads (listed mark8 packet_line _ c.fill.ensures c.write_in-a.ensures)
     c.tell_packet.ensures

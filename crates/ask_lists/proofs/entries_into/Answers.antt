@@ -7,8 +7,8 @@ use Rattle.ask_lists.proofs.entries_into.Goals as goal
 
 pub returns : goal.returns
 returns c = let q = c.requires in
-    reads (listed-entries _ c.fill32.ensures
-    (c.fill32-2.ensures ∙ ap (pattern mark32 0) q.0)
-    (c.fill32-3.ensures ∙ ap (pattern mark32 0) q.1)
+    reads (listed-entries _ c.fill.ensures
+    (c.fill-2.ensures ∙ ap (pattern mark32 0) q.0)
+    (c.fill-3.ensures ∙ ap (pattern mark32 0) q.1)
     c.entries_in-x.ensures)
     c.tell_entries.ensures

@@ -6,5 +6,5 @@ use Rattle.lent.proofs.TellLaws.{listed}
 use Rattle.ask_lists.proofs.made_into.Goals as goal
 
 pub returns : goal.returns
-returns c = reads (listed mark16 words_line _ c.fill16.ensures c.words-a.ensures)
+returns c = reads (listed mark16 words_line _ c.fill.ensures c.words-a.ensures)
     c.tell_words.ensures

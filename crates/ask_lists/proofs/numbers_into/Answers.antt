@@ -6,5 +6,5 @@ use Rattle.lent.proofs.TellLaws.{listed}
 use Rattle.ask_lists.proofs.numbers_into.Goals as goal
 
 pub returns : goal.returns
-returns c = reads (listed mark16 numbers_line _ c.fill16.ensures c.numbers-a.ensures)
+returns c = reads (listed mark16 numbers_line _ c.fill.ensures c.numbers-a.ensures)
     c.tell_numbers.ensures

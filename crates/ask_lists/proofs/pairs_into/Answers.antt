@@ -6,7 +6,7 @@ use Rattle.lent.proofs.TellLaws.{listed-pairs}
 use Rattle.ask_lists.proofs.pairs_into.Goals as goal
 
 pub returns : goal.returns
-returns c = reads (listed-pairs _ c.fill16.ensures
-    (c.fill32.ensures ∙ ap (pattern mark32 0) c.requires)
+returns c = reads (listed-pairs _ c.fill.ensures
+    (c.fill-2.ensures ∙ ap (pattern mark32 0) c.requires)
     c.pairs_in-a.ensures)
     c.tell_pairs.ensures

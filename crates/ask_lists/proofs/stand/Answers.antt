@@ -2,8 +2,8 @@
 use Rattle.ask_lists.proofs.stand.Goals as goal
 
 pub returns : goal.returns
-returns c = let a = c.stands32-3.ensures in
-    let b = c.stands32.ensures in
-    let d = c.stands32-2.ensures in
+returns c = let a = c.stands-3.ensures in
+    let b = c.stands.ensures in
+    let d = c.stands-2.ensures in
     let e = c.both-bc.ensures in
     rw (← a, ← b, ← d, ← e) c.both.ensures

@@ -4,5 +4,5 @@ use Rattle.lent.proofs.TellLaws.{stretched}
 use Rattle.ask_lists.proofs.stretch_into.Goals as goal
 
 pub returns : goal.returns
-returns c = reads (stretched _ _ _ c.fill16.ensures c.advance-a.ensures)
+returns c = reads (stretched _ _ _ c.fill.ensures c.advance-a.ensures)
     c.tell_stretch.ensures

@@ -6,10 +6,10 @@ use Rattle.def_dump.specs.Lines.{words_line}
 use Rattle.lent.proofs.TellLaws.{list_done, list-refused}
 use Rattle.ask_lists.proofs.tell_words.Goals as goal
 
-pub returns-in-Done : goal.returns-in-Done
-returns-in-Done c = reads (list_done mark16 words_line _ _ _ _ c.in-Done.is c.stands16.ensures)
+pub returns-in-Ok : goal.returns-in-Ok
+returns-in-Ok c = reads (list_done mark16 words_line _ _ _ _ c.in-Ok.is c.stands.ensures)
     (and_then c.words_line-m.ensures c.said_whole.ensures)
 
-pub returns-in-Refused : goal.returns-in-Refused
-returns-in-Refused c = reads (list-refused mark16 words_line _ _ _ _ c.in-Refused.is c.stands16-in-Refused.ensures)
-    (and_then c.refusal_line-m.ensures c.said_whole-in-Refused.ensures)
+pub returns-in-Err : goal.returns-in-Err
+returns-in-Err c = reads (list-refused mark16 words_line _ _ _ _ c.in-Err.is c.stands-in-Err.ensures)
+    (and_then c.refusal_line-m.ensures c.said_whole-in-Err.ensures)

@@ -1,4 +1,5 @@
 -- `block::time_in` meets its contract: the time of block k of a packet.
+use Rattle.laws.proofs.Passing.{handed-on}
 use Rattle.block.proofs.BlockLaws.{time-asked, time-missing}
 use Rattle.def_wire.specs.Block.{time_of}
 use Prim.Native.Nat.{ℕ}
@@ -6,12 +7,12 @@ use mathlib.Core.List.{List}
 use mathlib.Core.Path.{sym, ap, ◌∙◌}
 use Rattle.block.proofs.time_in.Goals as goal
 
-pub returns-in-At : goal.returns-in-At
-returns-in-At c = let a = c.args in
+pub returns : goal.returns
+returns c = let a = c.args in
     c.time.ensures ∙ ap (λ (v : List ℕ). time_of a.r v) c.part.ensures.result_value
-    ∙ time-asked a.r a.s.now a.k c.in-At.at c.in-At.n
-    (sym c.locate.ensures ∙ c.in-At.is)
+    ∙ time-asked a.r a.s.now a.k c.in_ok-at.at c.in_ok-at.n
+    (sym c.locate.ensures ∙ c.in_ok-at.was)
 
-pub returns-in-Missing : goal.returns-in-Missing
-returns-in-Missing c = let a = c.args in
-    time-missing a.r a.s.now a.k c.in-Missing.x (sym c.locate.ensures ∙ c.in-Missing.is)
+pub returns-in_err-at : goal.returns-in_err-at
+returns-in_err-at c = let a = c.args in
+    rw (handed-on _ _ c.from_residual.ensures) (time-missing a.r a.s.now a.k c.in_err-at.field-0.0 (sym c.locate.ensures ∙ c.in_err-at.was))

@@ -1,7 +1,7 @@
 -- `block_events::put_block` meets its contract: by the kind of block. Assumes nothing.
+use Rattle.std.specs.Prelude.{Some, None}
 use Rattle.std.proofs.Common.{◌≡◌, [], ◌∷◌, ap, ◌∙◌, arith}
 use Rattle.def_wire.specs.declared.Kind.TheVariants.{Spans, Clock, Echoes, Statistics}
-use Rattle.def_wire.specs.declared.KindOr.TheVariants.{AKind, NoKind}
 use Rattle.def_wire.specs.Block.{type_of, kind_of}
 use Rattle.def_portions.specs.Events.{start_of}
 use Rattle.event_lists.specs.Laid.{Laid}
@@ -11,12 +11,12 @@ use Rattle.block_events.proofs.PutLaws.{plain-start, clock-length, clock-two, cl
 use Rattle.block_events.proofs.PutLaws.{echoes-length, echoes-laid, summary-length, summary-two, summary-short}
 use Rattle.block_events.proofs.PutLaws.{summary-long, none-length}
 use Rattle.block_events.proofs.put_block.Goals as goal
-use Rattle.block_events.proofs.put_block.Goals.{After-put-m, After-put-m-in-Echoes, After-put-m-in-Statistics, In-Spans, In-Clock, In-Echoes, In-NoKind, In-Statistics}
+use Rattle.block_events.proofs.put_block.Goals.{After-put-m, After-put-m-in-Echoes, After-put-m-in-Statistics, In-Spans, In-Clock, In-Echoes, In-None, In-Statistics}
 
 -- ---- type 4
 
-clock : (e : In-Clock) → kind_of (type_of e.args.v.now) ≡ AKind Clock
-clock e = kind-known e.args.v.now e.type_of-t.ensures e.kind_of.ensures e.in-AKind.is ∙ ap AKind e.in-Clock.is
+clock : (e : In-Clock) → kind_of (type_of e.args.v.now) ≡ Some Clock
+clock e = kind-known e.args.v.now e.type_of-t.ensures e.kind_of.ensures e.in-Some.is ∙ ap Some e.in-Clock.is
 
 -- the start was stored
 clock-began : (p : After-put-m) → let a = p.args in
@@ -26,8 +26,8 @@ clock-began p = laid_as (plain-start p.args.v.now p.type_of-t.ensures p.length_o
 
 -- ---- type 5
 
-echoes : (e : In-Echoes) → kind_of (type_of e.args.v.now) ≡ AKind Echoes
-echoes e = kind-known e.args.v.now e.type_of-t.ensures e.kind_of.ensures e.in-AKind.is ∙ ap AKind e.in-Echoes.is
+echoes : (e : In-Echoes) → kind_of (type_of e.args.v.now) ≡ Some Echoes
+echoes e = kind-known e.args.v.now e.type_of-t.ensures e.kind_of.ensures e.in-Some.is ∙ ap Some e.in-Echoes.is
 
 -- the start was stored
 echoes-began : (p : After-put-m-in-Echoes) → let a = p.args in
@@ -37,8 +37,8 @@ echoes-began p = laid_as (plain-start p.args.v.now p.type_of-t.ensures p.length_
 
 -- ---- type 6
 
-summary : (e : In-Statistics) → kind_of (type_of e.args.v.now) ≡ AKind Statistics
-summary e = kind-known e.args.v.now e.type_of-t.ensures e.kind_of.ensures e.in-AKind.is ∙ ap AKind e.in-Statistics.is
+summary : (e : In-Statistics) → kind_of (type_of e.args.v.now) ≡ Some Statistics
+summary e = kind-known e.args.v.now e.type_of-t.ensures e.kind_of.ensures e.in-Some.is ∙ ap Some e.in-Statistics.is
 
 -- the start was stored
 summary-began : (p : After-put-m-in-Statistics) → let a = p.args in
@@ -48,13 +48,13 @@ summary-began p = laid_as (plain-start p.args.v.now p.type_of-t.ensures p.length
 
 -- ---- any other type
 
-none : (e : In-NoKind) → kind_of (type_of e.args.v.now) ≡ NoKind
-none e = kind-known e.args.v.now e.type_of-t.ensures e.kind_of.ensures e.in-NoKind.is
+none : (e : In-None) → kind_of (type_of e.args.v.now) ≡ None
+none e = kind-known e.args.v.now e.type_of-t.ensures e.kind_of.ensures e.in-None.is
 
 -- ---- types 1 to 3
 
-spans : (e : In-Spans) → kind_of (type_of e.args.v.now) ≡ AKind (Spans e.in-Spans.g)
-spans e = kind-known e.args.v.now e.type_of-t.ensures e.kind_of.ensures e.in-AKind.is ∙ ap AKind e.in-Spans.is
+spans : (e : In-Spans) → kind_of (type_of e.args.v.now) ≡ Some (Spans e.in-Spans.g)
+spans e = kind-known e.args.v.now e.type_of-t.ensures e.kind_of.ensures e.in-Some.is ∙ ap Some e.in-Spans.is
 
 pub put_range-requires : goal.put_range-requires
 put_range-requires c = rw (events-spans c.args.v.now _ (spans (goal.at.put_range-requires c).In-Spans)) c.requires
@@ -117,11 +117,11 @@ pub returns-else-v-lt40 : goal.returns-else-v-lt40
 returns-else-v-lt40 c = summary-long c.args.v.now (summary (goal.at.returns-else-v-lt40 c).In-Statistics)
     (summary-began (goal.at.returns-else-v-lt40 c).After-put-m-in-Statistics) c.if-v-lt40.false c.summary_at.ensures c.put-in-Statistics.ensures
 
-pub put-requires-in-NoKind : goal.put-requires-in-NoKind
-put-requires-in-NoKind c = omega (arith, none-length c.args.v.now (none (goal.at.put-requires-in-NoKind c).In-NoKind), c.requires)
+pub put-requires-in-None : goal.put-requires-in-None
+put-requires-in-None c = omega (arith, none-length c.args.v.now (none (goal.at.put-requires-in-None c).In-None), c.requires)
 
-pub returns-in-NoKind : goal.returns-in-NoKind
-returns-in-NoKind c = laid_as
-    (plain-start c.args.v.now c.type_of-t.ensures c.length_of-in-NoKind.ensures
-    ∙ events-none c.args.v.now (none (goal.at.returns-in-NoKind c).In-NoKind))
-    c.put-in-NoKind.ensures
+pub returns-in-None : goal.returns-in-None
+returns-in-None c = laid_as
+    (plain-start c.args.v.now c.type_of-t.ensures c.length_of-in-None.ensures
+    ∙ events-none c.args.v.now (none (goal.at.returns-in-None c).In-None))
+    c.put-in-None.ensures

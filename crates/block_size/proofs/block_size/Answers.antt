@@ -24,7 +24,7 @@ returns-in-Chunks c = let a = c.args in
       c.zeros_behind.ensures,
       as-words a.layout (job_of a.kind a.body.now) c.in-Chunks.field-0,
       length-block a.layout (job_of a.kind a.body.now)
-          (kind-spans c.kind_of.ensures c.in-AKind.is c.in-Spans.is c.in-Chunks.is),
+          (kind-spans c.kind_of.ensures c.in-Some.is c.in-Spans.is c.in-Chunks.is),
     )
 
 pub returns-in-Times : goal.returns-in-Times
@@ -34,26 +34,26 @@ returns-in-Times c = let a = c.args in
       c.above-in-Times.ensures,
       as-times a.layout (job_of a.kind a.body.now),
       length-block a.layout (job_of a.kind a.body.now)
-          (kind-spans c.kind_of.ensures c.in-AKind.is c.in-Spans.is c.in-Times.is),
+          (kind-spans c.kind_of.ensures c.in-Some.is c.in-Spans.is c.in-Times.is),
     )
 
 pub returns-in-Clock : goal.returns-in-Clock
 returns-in-Clock c = let a = c.args in
     sym (length-block a.layout (job_of a.kind a.body.now)
-    (kind-is c.kind_of.ensures c.in-AKind.is c.in-Clock.is))
+    (kind-is c.kind_of.ensures c.in-Some.is c.in-Clock.is))
 
 pub returns-in-Echoes : goal.returns-in-Echoes
 returns-in-Echoes c = let a = c.args in
     let j = job_of a.kind a.body.now in
-    sym (length-block a.layout j (kind-is c.kind_of.ensures c.in-AKind.is c.in-Echoes.is)
+    sym (length-block a.layout j (kind-is c.kind_of.ensures c.in-Some.is c.in-Echoes.is)
     ∙ as-echoes a.layout j)
 
 pub returns-in-Statistics : goal.returns-in-Statistics
 returns-in-Statistics c = let a = c.args in
     sym (length-block a.layout (job_of a.kind a.body.now)
-    (kind-is c.kind_of.ensures c.in-AKind.is c.in-Statistics.is))
+    (kind-is c.kind_of.ensures c.in-Some.is c.in-Statistics.is))
 
-pub returns-in-NoKind : goal.returns-in-NoKind
-returns-in-NoKind c = let a = c.args in
+pub returns-in-None : goal.returns-in-None
+returns-in-None c = let a = c.args in
     sym (length-block a.layout (job_of a.kind a.body.now)
-    (sym c.kind_of.ensures ∙ c.in-NoKind.is))
+    (sym c.kind_of.ensures ∙ c.in-None.is))

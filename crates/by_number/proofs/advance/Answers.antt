@@ -3,13 +3,13 @@ use Rattle.by_number.proofs.ByLaws.{advance-served, advance-other}
 use mathlib.Core.Path.{sym, ◌∙◌}
 use Rattle.by_number.proofs.advance.Goals as goal
 
-pub returns-in-AnRle : goal.returns-in-AnRle
-returns-in-AnRle c = let a = c.args in
-    advance-served a.s.now a.k a.t a.c a.budget a.out.now c.in-AnRle.a
+pub returns-in-Some : goal.returns-in-Some
+returns-in-Some c = let a = c.args in
+    advance-served a.s.now a.k a.t a.c a.budget a.out.now c.in-Some.a
     c.advance_in.result _
-    (sym c.rle_of.ensures ∙ c.in-AnRle.is) c.advance_in.ensures
+    (sym c.rle_of.ensures ∙ c.in-Some.is) c.advance_in.ensures
 
-pub returns-in-NoRle : goal.returns-in-NoRle
-returns-in-NoRle c = let a = c.args in
+pub returns-in-None : goal.returns-in-None
+returns-in-None c = let a = c.args in
     rw c.other.ensures (advance-other a.s.now a.k a.t a.c a.budget a.out.now
-    (sym c.rle_of.ensures ∙ c.in-NoRle.is))
+    (sym c.rle_of.ensures ∙ c.in-None.is))

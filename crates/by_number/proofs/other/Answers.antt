@@ -7,14 +7,14 @@ use Rattle.def_refusals.specs.declared.Refusal.TheVariants.{OtherType}
 use mathlib.Core.Path.{sym, ap, ◌∙◌}
 use Rattle.by_number.proofs.other.Goals as goal
 
-pub returns-in-At : goal.returns-in-At
-returns-in-At c = let a = c.args in
+pub returns-in-Ok : goal.returns-in-Ok
+returns-in-Ok c = let a = c.args in
     ap OtherType (type-taken c.part.result.now _ c.header_data-h.ensures _ c.block_type.ensures
     ∙ ap type_of c.part.ensures.result_value)
-    ∙ ap other_of (sym (view-shown a.r a.s.now a.k c.in-At.at c.in-At.n
-    (sym c.locate.ensures ∙ c.in-At.is)))
+    ∙ ap other_of (sym (view-shown a.r a.s.now a.k c.in-Ok.at c.in-Ok.n
+    (sym c.locate.ensures ∙ c.in-Ok.is)))
 
-pub returns-in-Missing : goal.returns-in-Missing
-returns-in-Missing c = let a = c.args in
-    ap other_of (sym (view-refused a.r a.s.now a.k c.in-Missing.x
-    (sym c.locate.ensures ∙ c.in-Missing.is)))
+pub returns-in-Err : goal.returns-in-Err
+returns-in-Err c = let a = c.args in
+    ap other_of (sym (view-refused a.r a.s.now a.k c.in-Err.x
+    (sym c.locate.ensures ∙ c.in-Err.is)))

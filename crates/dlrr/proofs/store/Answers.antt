@@ -10,39 +10,46 @@ loop-i-init c = let a = c.args in
 pub entry-e-requires : goal.entry-e-requires
 entry-e-requires c = let a = c.args in
     whole a.v.now a.ssrcs.now a.lasts.now a.delays.now a.n c.requires.n_value c.loop-i.ssrcs
-    c.loop-i.lasts c.loop-i.delays c.loop-i.i c.loop-i.at c.loop-i.invariant c.loop-i-test.true
+    c.loop-i.lasts c.loop-i.delays c.loop-i.i c.loop-i.invariant (omega arith)
 
 pub bounds-ssrcs-i : goal.bounds-ssrcs-i
 bounds-ssrcs-i c = let a = c.args in
     room-ssrcs a.v.now a.ssrcs.now a.lasts.now a.delays.now a.n c.requires.n_value c.loop-i.ssrcs
-    c.loop-i.lasts c.loop-i.delays c.loop-i.i c.loop-i.at c.loop-i.invariant c.loop-i-test.true
+    c.loop-i.lasts c.loop-i.delays c.loop-i.i c.loop-i.invariant (omega arith)
 
 pub bounds-lasts-i : goal.bounds-lasts-i
 bounds-lasts-i c = let a = c.args in
     room-lasts a.v.now a.ssrcs.now a.lasts.now a.delays.now a.n c.requires.n_value c.loop-i.ssrcs
-    c.loop-i.lasts c.loop-i.delays c.loop-i.i c.loop-i.at c.loop-i.invariant c.loop-i-test.true
+    c.loop-i.lasts c.loop-i.delays c.loop-i.i c.loop-i.invariant (omega arith)
 
 pub bounds-delays-i : goal.bounds-delays-i
 bounds-delays-i c = let a = c.args in
     room-delays a.v.now a.ssrcs.now a.lasts.now a.delays.now a.n c.requires.n_value c.loop-i.ssrcs
-    c.loop-i.lasts c.loop-i.delays c.loop-i.i c.loop-i.at c.loop-i.invariant c.loop-i-test.true
+    c.loop-i.lasts c.loop-i.delays c.loop-i.i c.loop-i.invariant (omega arith)
 
-pub overflow_add-at : goal.overflow_add-at
-overflow_add-at c = let a = c.args in
+pub overflow_mul-i : goal.overflow_mul-i
+overflow_mul-i c = let a = c.args in
     omega (
       arith,
-      whole a.v.now a.ssrcs.now a.lasts.now a.delays.now a.n c.requires.n_value
-          c.loop-i.ssrcs c.loop-i.lasts c.loop-i.delays c.loop-i.i c.loop-i.at c.loop-i.invariant
-          c.loop-i-test.true,
+      whole a.v.now a.ssrcs.now a.lasts.now a.delays.now a.n c.requires.n_value c.loop-i.ssrcs
+          c.loop-i.lasts c.loop-i.delays c.loop-i.i c.loop-i.invariant (omega arith),
+    )
+
+pub overflow_add-i : goal.overflow_add-i
+overflow_add-i c = let a = c.args in
+    omega (
+      arith,
+      whole a.v.now a.ssrcs.now a.lasts.now a.delays.now a.n c.requires.n_value c.loop-i.ssrcs
+          c.loop-i.lasts c.loop-i.delays c.loop-i.i c.loop-i.invariant (omega arith),
     )
 
 pub loop-i-preserved : goal.loop-i-preserved
 loop-i-preserved c = let a = c.args in
     turned a.v.now a.ssrcs.now a.lasts.now a.delays.now a.n c.requires.n_value c.loop-i.ssrcs
-    c.loop-i.lasts c.loop-i.delays c.loop-i.i c.loop-i.at c.loop-i.invariant c.loop-i-test.true
+    c.loop-i.lasts c.loop-i.delays c.loop-i.i c.loop-i.invariant (omega arith)
     c.entry-e.result c.entry-e.ensures
 
 pub returns : goal.returns
 returns c = let a = c.args in
     ended a.v.now a.ssrcs.now a.lasts.now a.delays.now a.n c.requires.n_value c.loop-i.ssrcs
-    c.loop-i.lasts c.loop-i.delays c.loop-i.i c.loop-i.at c.loop-i.invariant c.loop-i-test.false
+    c.loop-i.lasts c.loop-i.delays c.loop-i.i c.loop-i.invariant (omega arith)

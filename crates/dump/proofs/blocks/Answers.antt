@@ -1,7 +1,6 @@
 -- `dump::blocks` meets its contract: the blocks of an accepted packet, one after the other.
 use mathlib.Core.Path.{sym, ap, ◌∙◌}
 use native.Mathlib.Nat.{sub-zero}
-use native.Mathlib.Omega.{arith}
 use Rattle.xr.proofs.WalkLaws.{place-zero}
 use Rattle.def_dump.specs.Dump.{blocks_text}
 use Rattle.print.proofs.AddedLaws.{start, skip, next, done}
@@ -10,7 +9,6 @@ use Rattle.dump.proofs.blocks.Goals as goal
 
 pub loop-k-init : goal.loop-k-init
 loop-k-init c = let a = c.args in (
-  omega arith,
   sym (place-zero a.packet.now),
   skip (ap (blocks_text a.r a.packet.now 0) (sym (sub-zero a.count))) start,
 )
@@ -19,14 +17,13 @@ pub loop-k-preserved : goal.loop-k-preserved
 loop-k-preserved c = let e = c.loop-k in
     let a = c.args in
     let h = c.loop-k-test.true in (
-      omega (arith, h),
-      c.moved_from-place.ensures ∙ place_after a.r a.packet.now a.count e.k e.place c.requires h e.invariant.1,
-      next (blocks-next a.r a.packet.now a.count e.k e.place _ h e.invariant.1
+      c.moved_from-place.ensures ∙ place_after a.r a.packet.now a.count e.k e.place c.requires h e.invariant.0,
+      next (blocks-next a.r a.packet.now a.count e.k e.place _ h e.invariant.0
           c.view_from.ensures.0)
-          c.one_block-n.ensures e.invariant.2,
+          c.one_block-n.ensures e.invariant.1,
     )
 
 pub returns : goal.returns
 returns c = let a = c.args in
     done (blocks_end a.r a.packet.now a.count c.loop-k.k c.loop-k-test.false)
-    c.loop-k.invariant.2
+    c.loop-k.invariant.1

@@ -4,6 +4,6 @@ use Rattle.dump.proofs.ListLaws.{entries-shown}
 use Rattle.print.proofs.AddedLaws.{reads}
 use Rattle.dump.proofs.entries_or.Goals as goal
 
-pub returns-in-Done : goal.returns-in-Done
-returns-in-Done c = reads (entries-shown c.in-Done.is c.entries.ensures (omega arith))
+pub returns-in-Ok : goal.returns-in-Ok
+returns-in-Ok c = reads (entries-shown c.in-Ok.is c.entries.ensures (omega arith))
     c.entries_line.ensures

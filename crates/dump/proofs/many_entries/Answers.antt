@@ -5,10 +5,10 @@ use Rattle.dump.proofs.ListLaws.{entries-shown, entries-not-shown}
 use Rattle.print.proofs.AddedLaws.{reads}
 use Rattle.dump.proofs.many_entries.Goals as goal
 
-pub returns-in-Done : goal.returns-in-Done
-returns-in-Done c = reads (entries-shown c.in-Done.is c.entries.ensures (omega arith))
+pub returns-in-Ok : goal.returns-in-Ok
+returns-in-Ok c = reads (entries-shown c.in-Ok.is c.entries.ensures (omega arith))
     c.entries_line.ensures
 
-pub returns-in-Refused : goal.returns-in-Refused
-returns-in-Refused c = reads (entries-not-shown c.in-Refused.is c.entries.ensures refl)
+pub returns-in-Err : goal.returns-in-Err
+returns-in-Err c = reads (entries-not-shown c.in-Err.is c.entries.ensures refl)
     c.refused_line.ensures

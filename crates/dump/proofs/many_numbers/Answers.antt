@@ -5,10 +5,10 @@ use Rattle.dump.proofs.ListLaws.{numbers-shown, numbers-not-shown}
 use Rattle.print.proofs.AddedLaws.{reads}
 use Rattle.dump.proofs.many_numbers.Goals as goal
 
-pub returns-in-Done : goal.returns-in-Done
-returns-in-Done c = reads (numbers-shown c.in-Done.is c.numbers.ensures (omega arith))
+pub returns-in-Ok : goal.returns-in-Ok
+returns-in-Ok c = reads (numbers-shown c.in-Ok.is c.numbers.ensures (omega arith))
     c.numbers_line.ensures
 
-pub returns-in-Refused : goal.returns-in-Refused
-returns-in-Refused c = reads (numbers-not-shown c.in-Refused.is c.numbers.ensures refl)
+pub returns-in-Err : goal.returns-in-Err
+returns-in-Err c = reads (numbers-not-shown c.in-Err.is c.numbers.ensures refl)
     c.refused_line.ensures

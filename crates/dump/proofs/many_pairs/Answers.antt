@@ -5,10 +5,10 @@ use Rattle.dump.proofs.ListLaws.{pairs-shown, pairs-not-shown}
 use Rattle.print.proofs.AddedLaws.{reads}
 use Rattle.dump.proofs.many_pairs.Goals as goal
 
-pub returns-in-Done : goal.returns-in-Done
-returns-in-Done c = reads (pairs-shown c.in-Done.is c.pairs.ensures (omega arith))
+pub returns-in-Ok : goal.returns-in-Ok
+returns-in-Ok c = reads (pairs-shown c.in-Ok.is c.pairs.ensures (omega arith))
     c.pairs_line.ensures
 
-pub returns-in-Refused : goal.returns-in-Refused
-returns-in-Refused c = reads (pairs-not-shown c.in-Refused.is c.pairs.ensures refl)
+pub returns-in-Err : goal.returns-in-Err
+returns-in-Err c = reads (pairs-not-shown c.in-Err.is c.pairs.ensures refl)
     c.refused_line.ensures

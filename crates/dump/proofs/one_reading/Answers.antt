@@ -5,12 +5,12 @@ use Rattle.dump.proofs.DumpLaws.{reading-blocks, reading-refused}
 use Rattle.dump.proofs.one_reading.Goals as goal
 
 pub blocks-requires : goal.blocks-requires
-blocks-requires c = sym c.count.ensures ∙ c.in-Done.is
+blocks-requires c = sym c.count.ensures ∙ c.in-Ok.is
 
-pub returns-in-Done : goal.returns-in-Done
-returns-in-Done c = reads (reading-blocks _ _ _ c.count.ensures _ c.in-Done.is)
-    c.blocks-in-Done.ensures
+pub returns-in-Ok : goal.returns-in-Ok
+returns-in-Ok c = reads (reading-blocks _ _ _ c.count.ensures _ c.in-Ok.is)
+    c.blocks-in-Ok.ensures
 
-pub returns-in-Refused : goal.returns-in-Refused
-returns-in-Refused c = reads (reading-refused _ _ _ c.count.ensures _ c.in-Refused.is)
+pub returns-in-Err : goal.returns-in-Err
+returns-in-Err c = reads (reading-refused _ _ _ c.count.ensures _ c.in-Err.is)
     c.refused_line.ensures

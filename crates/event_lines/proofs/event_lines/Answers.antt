@@ -7,33 +7,21 @@ use Rattle.event_lines.proofs.EventLineLaws.{room_at, lines_next, lines_end}
 use Rattle.event_lines.proofs.event_lines.Goals as goal
 
 pub loop-i-init : goal.loop-i-init
-loop-i-init c = (
-  omega arith,
-  rw (c.lesser-3.ensures, c.lesser-2.ensures, c.lesser.ensures) at
-      c.lesser-stop.ensures,
-  start,
-)
-
-pub loop-i-smaller : goal.loop-i-smaller
-loop-i-smaller c = omega (arith, c.loop-i-test.true)
+loop-i-init c = start
 
 pub loop-i-preserved : goal.loop-i-preserved
-loop-i-preserved c = let e = c.loop-i.invariant in
-    let a = c.args in (
-      omega arith,
-      e.1,
-      next (lines_next a.count a.tags.now a.numbers.now a.values.now a.sums.now
-          c.loop-i.i (omega arith))
-          (reads (ap event_line c.event_at.ensures) c.event_line-to.ensures) e.2,
-    )
+loop-i-preserved c = let a = c.args in
+    let e = rw (c.lesser-3.ensures, c.lesser-2.ensures, c.lesser.ensures) at c.lesser-stop.ensures in
+    next (lines_next a.count a.tags.now a.numbers.now a.values.now a.sums.now c.loop-i.i (omega arith))
+    (reads (ap event_line c.event_at.ensures) c.event_line-to.ensures) c.loop-i.invariant
 
 pub event_at-requires : goal.event_at-requires
 event_at-requires c = let a = c.args in
-    room_at a.count _ _ a.tags.now a.numbers.now a.values.now a.sums.now c.loop-i.invariant.1
-    c.loop-i-test.true
+    let e = rw (c.lesser-3.ensures, c.lesser-2.ensures, c.lesser.ensures) at c.lesser-stop.ensures in
+    room_at a.count _ _ a.tags.now a.numbers.now a.values.now a.sums.now e c.loop-i-test.true
 
 pub returns : goal.returns
 returns c = let a = c.args in
-    done (lines_end a.count a.tags.now a.numbers.now a.values.now a.sums.now c.loop-i.i
-    (omega arith))
-    c.loop-i.invariant.2
+    let e = rw (c.lesser-3.ensures, c.lesser-2.ensures, c.lesser.ensures) at c.lesser-stop.ensures in
+    done (lines_end a.count a.tags.now a.numbers.now a.values.now a.sums.now c.loop-i.i (omega arith))
+    c.loop-i.invariant

@@ -7,7 +7,7 @@ use lib.Seq.{sets}
 use Rattle.def_wire.specs.declared.Sums.{Sums}
 use Rattle.def_portions.specs.Lists.{summary_tag, sums_row, tag_of, number_part, value_part, put_sums}
 use Rattle.event_lists.specs.Laid.{Laid}
-use Rattle.event_lists.proofs.LaidLaws.{laid_one, same-tags, same_numbers, same-values, same-sums}
+use Rattle.event_lists.proofs.LaidLaws.{laid_one}
 use Rattle.event_lists.proofs.put.Goals as goal
 use Rattle.event_lists.proofs.put.Goals.{Joined-e, in-Header, in-Start, in-Ranged, in-Number, in-Pair, in-Entry, in-Time, in-Summed, in-End}
 
@@ -36,18 +36,6 @@ stored c =
           (w.sums-is ∙ w.put_sums.ensures ∙ ap (λ (m : Sums). sets a.sums.now (3 * a.n) (sums_row m)) w.sums_of-m.ensures)
       | in-End w ↦ laid_one w.in-End.is w.tags-is w.numbers-is w.values-is w.sums-is
     ]
-
-pub shape_of-tags : goal.shape_of-tags
-shape_of-tags c = same-tags (stored (goal.at.shape_of-tags c).Joined-e)
-
-pub shape_of-numbers : goal.shape_of-numbers
-shape_of-numbers c = same_numbers (stored (goal.at.shape_of-numbers c).Joined-e)
-
-pub shape_of-values : goal.shape_of-values
-shape_of-values c = same-values (stored (goal.at.shape_of-values c).Joined-e)
-
-pub shape_of-sums : goal.shape_of-sums
-shape_of-sums c = same-sums (stored (goal.at.shape_of-sums c).Joined-e)
 
 pub returns : goal.returns
 returns c = stored (goal.at.returns c).Joined-e

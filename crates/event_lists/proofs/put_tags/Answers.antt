@@ -1,34 +1,18 @@
--- `event_lists::put_tags` meets its contract: what is still to be stored is as many tags as indices are left. Assumes
--- nothing.
-use Prim.Native.Nat.{ℕ, suc, ◌+◌, ◌-◌}
-use mathlib.Core.Path.{◌≡◌, ap}
-use mathlib.Core.List.{◌∷◌}
-use native.Mathlib.Omega.{arith}
-use lib.ListN.{length-replicate}
-use Rattle.laws.proofs.Filling.{start, within, put, ended}
+-- `event_lists::put_tags` meets its contract: to fill a part is to store as many tags. Assumes nothing.
+use Rattle.std.proofs.Common.{◌≡◌, ℕ, ◌+◌, ◌-◌, ◌≤◌, List, length, take, drop, replicate, arith, append_assoc, drop-drop, length-drop}
+use Rattle.std.proofs.lemmas.List.{length-replicate, length-take-le}
+use lib.Seq.{sets, sets-eq}
+use borrow.Rule.Slice.PartMut.{put_mid}
 use Rattle.event_lists.specs.Laid.{number_tags}
 use Rattle.event_lists.proofs.put_tags.Goals as goal
-use Rattle.event_lists.proofs.put_tags.Goals.{In-loop-n}
 
--- there is a tag left to store
-next : (c : In-loop-n) → let a = c.args in let k = c.loop-n in
-    number_tags (a.to - k.n) ≡ 4 ∷ number_tags (a.to - (k.n + 1))
-next c =
-    let a = c.args in
-    let n = c.loop-n.n in
-    let e : a.to - n ≡ suc (a.to - (n + 1)) = omega (arith, c.loop-n-test.true, c.loop-n.invariant.0) in rw e
-
-pub loop-n-init : goal.loop-n-init
-loop-n-init c = let a = c.args in
-    let e = length-replicate {A = ℕ} (a.to - a.from) 4 in
-    (c.requires.0, start (omega (arith, e, c.requires.0, c.requires.1)))
-
-pub bounds-tags-n : goal.bounds-tags-n
-bounds-tags-n c = within (next (goal.at.bounds-tags-n c).In-loop-n) c.loop-n.invariant.1
-
-pub loop-n-preserved : goal.loop-n-preserved
-loop-n-preserved c = (omega (arith, c.loop-n-test.true, c.loop-n.invariant.0), put (next (goal.at.loop-n-preserved c).In-loop-n) c.loop-n.invariant.1)
+-- a part of n places that holds tags alone
+filled : (l ys : List ℕ) (at n : ℕ) → at + n ≤ length l → ys ≡ replicate (length (take n (drop at l))) 4
+    → put_mid at n l ys ≡ sets l at (number_tags n)
+filled l ys at n h e =
+    let r : length (replicate {A = ℕ} n 4) ≡ n = length-replicate n 4 in
+    let m : length (take n (drop at l)) ≡ n = length-take-le n (drop at l) (omega (arith, length-drop at l)) in
+    rw (e, m, drop-drop n at l, ← append_assoc (take at l) (replicate n 4) (drop (at + n) l), sets-eq (replicate {A = ℕ} n 4) l at (omega arith), r)
 
 pub returns : goal.returns
-returns c = let e : c.args.to - c.loop-n.n ≡ 0 = omega (arith, c.loop-n-test.false) in
-    (ended (ap number_tags e) c.loop-n.invariant.1).stored
+returns c = let a = c.args in filled a.tags.now c.fill.new.self a.from (a.to - a.from) (omega arith) (c.fill.ensures.after (λ y e. e))

@@ -3,10 +3,10 @@ use Rattle.flat.specs.Flat.{flat_of}
 use mathlib.Core.Path.{sym, ap, ◌∙◌}
 use Rattle.flat.proofs.answer.Goals as goal
 
-pub returns-in-Done : goal.returns-in-Done
+pub returns-in-Ok : goal.returns-in-Ok
 unfolding flat_of
-returns-in-Done c = sym (ap flat_of c.in-Done.is)
+returns-in-Ok c = sym (ap flat_of c.in-Ok.is)
 
-pub returns-in-Refused : goal.returns-in-Refused
+pub returns-in-Err : goal.returns-in-Err
 unfolding flat_of
-returns-in-Refused c = c.refusal.ensures ∙ sym (ap flat_of c.in-Refused.is)
+returns-in-Err c = c.refusal.ensures ∙ sym (ap flat_of c.in-Err.is)

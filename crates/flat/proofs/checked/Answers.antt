@@ -3,10 +3,10 @@ use Rattle.flat.specs.Flat.{flat_checked}
 use mathlib.Core.Path.{sym, ap, ◌∙◌}
 use Rattle.flat.proofs.checked.Goals as goal
 
-pub returns-in-Fine : goal.returns-in-Fine
+pub returns-in-Ok : goal.returns-in-Ok
 unfolding flat_checked
-returns-in-Fine c = sym (ap flat_checked c.in-Fine.is)
+returns-in-Ok c = sym (ap flat_checked c.in-Ok.is)
 
-pub returns-in-Unfit : goal.returns-in-Unfit
+pub returns-in-Err : goal.returns-in-Err
 unfolding flat_checked
-returns-in-Unfit c = c.refusal.ensures ∙ sym (ap flat_checked c.in-Unfit.is)
+returns-in-Err c = c.refusal.ensures ∙ sym (ap flat_checked c.in-Err.is)

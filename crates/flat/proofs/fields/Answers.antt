@@ -3,11 +3,11 @@ use Rattle.flat.specs.Flat.{flat_fields, fields_row, no_fields}
 use mathlib.Core.Path.{sym, ap, ◌∙◌}
 use Rattle.flat.proofs.fields.Goals as goal
 
-pub returns-in-Shown : goal.returns-in-Shown
+pub returns-in-Ok : goal.returns-in-Ok
 unfolding flat_fields
-returns-in-Shown c = sym (ap flat_fields c.in-Shown.is)
+returns-in-Ok c = sym (ap flat_fields c.in-Ok.is)
 
-pub returns-in-NoneOf : goal.returns-in-NoneOf
+pub returns-in-Err : goal.returns-in-Err
 unfolding flat_fields
-returns-in-NoneOf c = ap (λ f. fields_row f no_fields) c.refusal-f.ensures
-    ∙ sym (ap flat_fields c.in-NoneOf.is)
+returns-in-Err c = ap (λ f. fields_row f no_fields) c.refusal-f.ensures
+    ∙ sym (ap flat_fields c.in-Err.is)

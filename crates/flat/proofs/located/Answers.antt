@@ -3,10 +3,10 @@ use Rattle.flat.specs.Flat.{flat_located}
 use mathlib.Core.Path.{sym, ap, ◌∙◌}
 use Rattle.flat.proofs.located.Goals as goal
 
-pub returns-in-At : goal.returns-in-At
+pub returns-in-Ok : goal.returns-in-Ok
 unfolding flat_located
-returns-in-At c = sym (ap flat_located c.in-At.is)
+returns-in-Ok c = sym (ap flat_located c.in-Ok.is)
 
-pub returns-in-Missing : goal.returns-in-Missing
+pub returns-in-Err : goal.returns-in-Err
 unfolding flat_located
-returns-in-Missing c = c.refusal.ensures ∙ sym (ap flat_located c.in-Missing.is)
+returns-in-Err c = c.refusal.ensures ∙ sym (ap flat_located c.in-Err.is)

@@ -3,11 +3,11 @@ use Rattle.flat.specs.Flat.{flat_stretch, stretch_row, no_stretch}
 use mathlib.Core.Path.{sym, ap, ◌∙◌}
 use Rattle.flat.proofs.stretch.Goals as goal
 
-pub returns-in-Moved : goal.returns-in-Moved
+pub returns-in-Ok : goal.returns-in-Ok
 unfolding flat_stretch
-returns-in-Moved c = sym (ap flat_stretch c.in-Moved.is)
+returns-in-Ok c = sym (ap flat_stretch c.in-Ok.is)
 
-pub returns-in-Stuck : goal.returns-in-Stuck
+pub returns-in-Err : goal.returns-in-Err
 unfolding flat_stretch
-returns-in-Stuck c = ap (λ f. stretch_row f no_stretch) c.refusal-f.ensures
-    ∙ sym (ap flat_stretch c.in-Stuck.is)
+returns-in-Err c = ap (λ f. stretch_row f no_stretch) c.refusal-f.ensures
+    ∙ sym (ap flat_stretch c.in-Err.is)

@@ -2,10 +2,10 @@
 use Rattle.flat.specs.Flat.{flat_summary}
 use Rattle.flat.proofs.summary.Goals as goal
 
-pub returns-in-Stated : goal.returns-in-Stated
+pub returns-in-Ok : goal.returns-in-Ok
 unfolding flat_summary
-returns-in-Stated c = rw c.in-Stated.is (rw (← c.flags_of.ensures, ← c.sums_of.ensures) c.summary_row.ensures)
+returns-in-Ok c = rw c.in-Ok.is (rw (← c.flags_of.ensures, ← c.sums_of.ensures) c.summary_row.ensures)
 
-pub returns-in-NoSummary : goal.returns-in-NoSummary
+pub returns-in-Err : goal.returns-in-Err
 unfolding flat_summary
-returns-in-NoSummary c = rw (c.summary_row-in-NoSummary.ensures, c.no_sums.ensures, c.refusal.ensures, c.in-NoSummary.is)
+returns-in-Err c = rw (c.summary_row-in-Err.ensures, c.no_sums.ensures, c.refusal.ensures, c.in-Err.is)

@@ -4,9 +4,6 @@ use native.Mathlib.Omega.{arith}
 use Rattle.marks.proofs.RunLaws.{not-run, not-run-first, last-load}
 use Rattle.marks.proofs.are_equal.Goals as goal
 
-pub four_of-all-requires : goal.four_of-all-requires
-four_of-all-requires c = c.requires.0 c.args.at
-
 pub returns-then-load32-all : goal.returns-then-load32-all
 returns-then-load32-all c = let a = c.args in
     sym (not-run-first a.marks.now a.at

@@ -9,12 +9,6 @@ use Rattle.marked.proofs.WordsLaws.{taken-least, taken-most}
 use Rattle.marks.proofs.WordsTurn.{words-none, words-ahead}
 use Rattle.marks.proofs.count_words.Goals as goal
 
-pub loop-at-init : goal.loop-at-init
-loop-at-init c = (omega arith, omega arith, record { count = omega arith })
-
-pub taken-at-requires : goal.taken-at-requires
-taken-at-requires c = (c.requires.0, c.loop-at-test.true)
-
 pub overflow_add-at : goal.overflow_add-at
 overflow_add-at c = let ms = c.args.marks.now in
     omega (arith, c.loop-at.invariant.0, c.taken-at.ensures, taken-most (drop c.loop-at.at ms))

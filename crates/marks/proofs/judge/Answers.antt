@@ -1,26 +1,26 @@
 -- `marks::judge` meets its contract: block by block, and in a block that has a bad byte, from its start on.
-use mathlib.Core.Path.{refl, sym, ◌∙◌}
-use native.Mathlib.Omega.{arith}
-use Rattle.marked.proofs.FaultLaws.{bad-skip, bad-end}
-use Rattle.marks.proofs.UnionLaws.{each_in}
+use Rattle.std.proofs.Common.{sym, ◌∙◌, arith, length-drop, ap, length}
+use Rattle.marked.proofs.FaultLaws.{bad-end}
+use Rattle.marks.proofs.UnionLaws.{block-rest, block-within, block-marks}
 use Rattle.marks.proofs.judge.Goals as goal
 
-pub loop-at-init : goal.loop-at-init
-loop-at-init c = (omega arith, refl)
-
-pub returns-then-union-gt1 : goal.returns-then-union-gt1
-returns-then-union-gt1 c = c.first_bad.ensures ∙ sym c.loop-at.invariant.1
-
-pub loop-at-preserved : goal.loop-at-preserved
-loop-at-preserved c = let ms = c.args.marks.now in
-    let few = c.lesser-n.ensures in (
-      omega (arith, few, c.loop-at-test.true),
-      c.loop-at.invariant.1
-          ∙ bad-skip c.lesser-n.result c.loop-at.at ms (omega (arith, few, c.loop-at-test.true))
-          (each_in ms c.loop-at.at c.lesser-n.result c.part.ensures.result_value
-          (c.union.ensures.0 (omega (arith, c.if-union-gt1.false)))),
+pub loop-block-preserved : goal.loop-block-preserved
+loop-block-preserved c =
+    let ms = c.args.marks.now in
+    let i = c.loop-block.invariant in
+    let s = c.in-Some.ensures.steps in
+    let e = sym i.3 ∙ s.1.0 in (
+      omega (arith, s.0, i.0),
+      tt,
+      s.0 ∙ i.2,
+      block-rest ms c.loop-block.at _ _ e i.4,
+      block-within ms c.loop-block.at _ _ e i.4,
+      i.5 ∙ block-marks ms c.loop-block.at _ _ e i.4 (c.union.ensures.0 c.if-union-gt1.false),
     )
 
 pub returns : goal.returns
-returns c = sym (c.loop-at.invariant.1
-    ∙ bad-end c.loop-at.at c.loop-at.at c.args.marks.now (omega (arith, c.loop-at-test.false)))
+returns c =
+    let ms = c.args.marks.now in
+    let i = c.loop-block.invariant in
+    sym (i.5 ∙ bad-end c.loop-block.at c.loop-block.at ms
+    (omega (arith, ap length i.3, length-drop c.loop-block.at ms, c.in-None.ensures.steps.1.0)))

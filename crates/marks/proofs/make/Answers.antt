@@ -1,9 +1,9 @@
 -- `marks::make` meets its contract: room for a word for each 15 marks, or for as many as were counted; else 11.
+use Rattle.std.specs.Prelude.{Ok}
 use Prim.Native.Nat.{◌≤◌}
 use mathlib.Core.Path.{refl}
 use native.Mathlib.Omega.{arith}
 use lib.ListN.{length}
-use Rattle.def_refusals.specs.Answers.{shown}
 use Rattle.def_marks.specs.Marks.{words_of}
 use Rattle.laws.proofs.Answering.{listed, full}
 use Rattle.marked.proofs.WordsLaws.{words-few}
@@ -22,7 +22,7 @@ room c =
 pub returns-then-out-need : goal.returns-then-out-need
 returns-then-out-need c = let a = c.args in
     let whole = words_of a.marks.now in
-    full (shown whole) a.out.now whole _ refl c.count_words-need.ensures c.if-out-need.true
+    full (Ok whole) a.out.now whole _ refl c.count_words-need.ensures c.if-out-need.true
 
 pub store_words-requires : goal.store_words-requires
 store_words-requires c = (c.requires.0, c.requires.1, room (goal.at.store_words-requires c).Joined-lesser-marks)
@@ -30,4 +30,4 @@ store_words-requires c = (c.requires.0, c.requires.1, room (goal.at.store_words-
 pub returns : goal.returns
 returns c = let a = c.args in
     let whole = words_of a.marks.now in
-    listed (shown whole) a.out.now whole _ _ refl (room (goal.at.returns c).Joined-lesser-marks) c.store_words.ensures
+    listed (Ok whole) a.out.now whole _ _ refl (room (goal.at.returns c).Joined-lesser-marks) c.store_words.ensures

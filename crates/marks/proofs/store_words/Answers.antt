@@ -1,16 +1,10 @@
 -- `marks::store_words` meets its contract: the loop fills from the front.
 use native.Mathlib.Omega.{arith}
 use lib.ListN.{drop}
-use Rattle.laws.proofs.Filling.{start, within, put, done}
+use Rattle.laws.proofs.Filling.{within, put, done}
 use Rattle.marked.proofs.WordsLaws.{taken-least, taken-most}
 use Rattle.marks.proofs.WordsTurn.{words-none, words-ahead}
 use Rattle.marks.proofs.store_words.Goals as goal
-
-pub loop-at-init : goal.loop-at-init
-loop-at-init c = (omega arith, omega arith, start (omega arith))
-
-pub next_word-s-requires : goal.next_word-s-requires
-next_word-s-requires c = (c.requires.0, c.loop-at-test.true, c.requires.1)
 
 pub bounds-out-n : goal.bounds-out-n
 bounds-out-n c = let ms = c.args.marks.now in

@@ -3,9 +3,6 @@ use mathlib.Core.Path.{sym, ◌∙◌}
 use Rattle.marks.proofs.NextLaws.{taken-of-run, taken-of-vector}
 use Rattle.marks.proofs.taken.Goals as goal
 
-pub run_length-requires : goal.run_length-requires
-run_length-requires c = (c.requires.0, sym c.is_run.ensures ∙ c.if-is_run.true)
-
 pub returns-then-is_run : goal.returns-then-is_run
 returns-then-is_run c = taken-of-run c.args.marks.now c.args.at (sym c.is_run.ensures ∙ c.if-is_run.true)
     c.run_length.ensures

@@ -13,10 +13,10 @@ good : (f : After-kind_of) → is_block_job (job_of f.args.kind f.args.body.now)
 good f = sym f.is_block.ensures ∙ f.if-not-is_block.false
 
 words : (t : In-Chunks) → is_block_job (job_of t.args.kind t.args.body.now) ≡ true → Fielded t.args.body.now 2
-words t e = fielded-words (job_of t.args.kind t.args.body.now) t.args.behind e t.in-Chunks.field-0 (kind-spans t.kind_of.ensures t.in-AKind.is t.in-Spans.is t.in-Chunks.is)
+words t e = fielded-words (job_of t.args.kind t.args.body.now) t.args.behind e t.in-Chunks.field-0 (kind-spans t.kind_of.ensures t.in-Some.is t.in-Spans.is t.in-Chunks.is)
 
 times : (t : In-Times) → is_block_job (job_of t.args.kind t.args.body.now) ≡ true → Fielded t.args.body.now 4
-times t e = fielded-times (job_of t.args.kind t.args.body.now) t.args.behind e (kind-spans t.kind_of.ensures t.in-AKind.is t.in-Spans.is t.in-Times.is)
+times t e = fielded-times (job_of t.args.kind t.args.body.now) t.args.behind e (kind-spans t.kind_of.ensures t.in-Some.is t.in-Spans.is t.in-Times.is)
 
 pub returns-then-not-is_block : goal.returns-then-not-is_block
 returns-then-not-is_block c = misled-bad (job_of c.args.kind c.args.body.now) c.args.behind (sym c.is_block.ensures ∙ c.if-not-is_block.true)
@@ -38,28 +38,28 @@ fields_of-requires c = (times (goal.at.fields_of-requires c).In-Times (good (goa
 pub returns-in-Chunks : goal.returns-in-Chunks
 returns-in-Chunks c =
     let e = misled-as (job_of c.args.kind c.args.body.now) c.args.behind (good (goal.at.returns-in-Chunks c).After-kind_of)
-    (kind-spans c.kind_of.ensures c.in-AKind.is c.in-Spans.is c.in-Chunks.is) in
+    (kind-spans c.kind_of.ensures c.in-Some.is c.in-Spans.is c.in-Chunks.is) in
     c.goes_on.ensures ∙ (rw (c.shared_of.ensures, c.fields_of-f.ensures) e)
 
 pub returns-in-Times : goal.returns-in-Times
 returns-in-Times c =
     let e = misled-times (job_of c.args.kind c.args.body.now) c.args.behind (good (goal.at.returns-in-Times c).After-kind_of)
-    (kind-spans c.kind_of.ensures c.in-AKind.is c.in-Spans.is c.in-Times.is) in
+    (kind-spans c.kind_of.ensures c.in-Some.is c.in-Spans.is c.in-Times.is) in
     c.misled_times.ensures ∙ (rw c.fields_of.ensures e)
 
 pub returns-in-Clock : goal.returns-in-Clock
 returns-in-Clock c =
-    misled-as (job_of c.args.kind c.args.body.now) c.args.behind (good (goal.at.returns-in-Clock c).After-kind_of) (kind-is c.kind_of.ensures c.in-AKind.is c.in-Clock.is)
+    misled-as (job_of c.args.kind c.args.body.now) c.args.behind (good (goal.at.returns-in-Clock c).After-kind_of) (kind-is c.kind_of.ensures c.in-Some.is c.in-Clock.is)
 
 pub returns-in-Echoes : goal.returns-in-Echoes
 returns-in-Echoes c =
     c.misled_echoes.ensures
-    ∙ misled-as (job_of c.args.kind c.args.body.now) c.args.behind (good (goal.at.returns-in-Echoes c).After-kind_of) (kind-is c.kind_of.ensures c.in-AKind.is c.in-Echoes.is)
+    ∙ misled-as (job_of c.args.kind c.args.body.now) c.args.behind (good (goal.at.returns-in-Echoes c).After-kind_of) (kind-is c.kind_of.ensures c.in-Some.is c.in-Echoes.is)
 
 pub returns-in-Statistics : goal.returns-in-Statistics
 returns-in-Statistics c =
-    misled-as (job_of c.args.kind c.args.body.now) c.args.behind (good (goal.at.returns-in-Statistics c).After-kind_of) (kind-is c.kind_of.ensures c.in-AKind.is c.in-Statistics.is)
+    misled-as (job_of c.args.kind c.args.body.now) c.args.behind (good (goal.at.returns-in-Statistics c).After-kind_of) (kind-is c.kind_of.ensures c.in-Some.is c.in-Statistics.is)
 
-pub returns-in-NoKind : goal.returns-in-NoKind
-returns-in-NoKind c =
-    misled-as (job_of c.args.kind c.args.body.now) c.args.behind (good (goal.at.returns-in-NoKind c).After-kind_of) (sym c.kind_of.ensures ∙ c.in-NoKind.is)
+pub returns-in-None : goal.returns-in-None
+returns-in-None c =
+    misled-as (job_of c.args.kind c.args.body.now) c.args.behind (good (goal.at.returns-in-None c).After-kind_of) (sym c.kind_of.ensures ∙ c.in-None.is)

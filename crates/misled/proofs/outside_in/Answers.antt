@@ -1,5 +1,5 @@
 -- `misled::outside_in` meets its contract: what the words cover, and a number for all of them. Assumes nothing.
-use Rattle.std.proofs.Common.{◌≡◌, ◌+◌, ◌*◌, ◌<◌, arith}
+use Rattle.std.proofs.Common.{◌+◌, ◌*◌, ◌<◌, arith}
 use lib.Bits.{bit_and}
 use Rattle.def_jobs.specs.Jobs.{le16}
 use Rattle.misled.specs.Known.{Quiet}
@@ -17,17 +17,10 @@ word-quiet c =
     (quiet-lowered c.load16-w.result c.wrapping_sub_u16.result c.wrapping_sub_u16.ensures.value (omega arith))
 
 pub loop-k-init : goal.loop-k-init
-loop-k-init c = let a = c.args in
-    (omega arith, gathering-none a.body.now a.from a.start (omega arith))
+loop-k-init c = let a = c.args in gathering-none a.body.now a.from a.start (omega arith)
 
 pub loop-k-preserved : goal.loop-k-preserved
-loop-k-preserved c = let a = c.args in (
-  omega (arith, c.loop-k-test.true),
-  rw c.wrapping_add_u16-p.ensures.value
-      (gathering-more a.body.now a.from c.loop-k.k c.covers.result
-      (rw (← c.load16-w.ensures) c.covers.ensures) _ (word-quiet (goal.at.loop-k-preserved c).After-wrapping_sub_u16) c.loop-k.invariant.1),
-)
-
-pub returns : goal.returns
-returns c = let e : c.loop-k.k ≡ c.args.n = omega (arith, c.loop-k.invariant.0, c.loop-k-test.false) in
-    rw (← e) (record { p_value = c.loop-k.invariant.1.circle; quiet_in = c.loop-k.invariant.1.quiet })
+loop-k-preserved c = let a = c.args in
+    rw c.wrapping_add_u16-p.ensures.value
+    (gathering-more a.body.now a.from c.loop-k.k c.covers.result
+    (rw (← c.load16-w.ensures) c.covers.ensures) _ (word-quiet (goal.at.loop-k-preserved c).After-wrapping_sub_u16) c.loop-k.invariant)

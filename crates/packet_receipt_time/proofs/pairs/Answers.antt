@@ -1,6 +1,7 @@
 -- `packet_receipt_time::pairs` meets its contract.
+use Rattle.laws.proofs.Passing.{handed-on}
+use Rattle.std.specs.Prelude.{Ok}
 use Rattle.std.proofs.Common.{◌≡◌, ℕ, ◌≤◌, min, length, drop, sym, refl, ◌∙◌, arith, length-drop}
-use Rattle.def_refusals.specs.Answers.{shown}
 use Rattle.def_wire.specs.Bytes.{words32}
 use Rattle.def_wire.specs.Block.{fields_at}
 use Rattle.def_standard.specs.Range.{number_of}
@@ -27,7 +28,7 @@ counted c =
 -- what is shown, by a first number and a step
 asked : (c : After-lesser-n) (first step : ℕ) → first ≡ number_of (range_by c.args.r (fields_at c.args.v.now)) 0
     → step ≡ step_of (fields_at c.args.v.now).thinning
-    → pairs_shown c.args.r c.args.v.now ≡ shown
+    → pairs_shown c.args.r c.args.v.now ≡ Ok
     (stepped step first c.lesser-n.result ((words32 (drop 12 c.args.v.now))))
 asked c first step p q =
     let bytes : Bytes c.args.v.now = λ i. (c.type_inv.v i).fits in
@@ -37,7 +38,7 @@ asked c first step p q =
       length-drop 12 c.args.v.now,
       c.well_formed,
     ) in
-    pairs-fine c.args.r c.args.v.now (sym c.check_times.ensures ∙ c.in-Fine.is) (be16-lt c.args.v.now 8 bytes)
+    pairs-fine c.args.r c.args.v.now (sym c.check_times.ensures ∙ c.in_ok-check_times.was) (be16-lt c.args.v.now 8 bytes)
     (be16-lt c.args.v.now 10 bytes) few first step c.lesser-n.result p q (counted c)
 
 long : (c : After-lesser-n) (first step : ℕ) → c.lesser-n.result ≡ length
@@ -53,18 +54,18 @@ returns-then-room-n c = let a = c.args in
     c.lesser-n.result c.lesser-room.result (asked (goal.at.returns-then-room-n c).After-lesser-n first step refl refl) (long (goal.at.returns-then-room-n c).After-lesser-n first step) c.lesser-room.ensures
     c.if-room-n.true
 
-pub returns-else-room-n : goal.returns-else-room-n
-returns-else-room-n c = let a = c.args in
+pub returns : goal.returns
+returns c = let a = c.args in
     let first = first_found a.r c.fields_at-f.result a.v.now c.fields_at-f.ensures c.first_of-first.result
     c.first_of-first.ensures in
     let step = step-found a.r c.fields_at-f.result a.v.now c.fields_at-f.ensures c.doubled-step.result
     c.doubled-step.ensures in
     pairs-listed _ a.numbers.now a.times.now _ c.lesser-n.result _ _
-    (asked (goal.at.returns-else-room-n c).After-lesser-n c.first_of-first.result c.doubled-step.result first step)
-    (long (goal.at.returns-else-room-n c).After-lesser-n c.first_of-first.result c.doubled-step.result) (omega (arith, c.if-room-n.false, c.lesser-room.ensures))
+    (asked (goal.at.returns c).After-lesser-n c.first_of-first.result c.doubled-step.result first step)
+    (long (goal.at.returns c).After-lesser-n c.first_of-first.result c.doubled-step.result) (omega (arith, c.if-room-n.false, c.lesser-room.ensures))
     c.store.ensures
 
-pub returns-in-Unfit : goal.returns-in-Unfit
-returns-in-Unfit c = let a = c.args in
-    pairs-refused _ a.numbers.now a.times.now c.in-Unfit.x
-    (pairs-unfit a.r a.v.now c.in-Unfit.x (sym c.check_times.ensures ∙ c.in-Unfit.is))
+pub returns-in_err-check_times : goal.returns-in_err-check_times
+returns-in_err-check_times c = let a = c.args in
+    rw (handed-on _ _ c.from_residual.ensures) (pairs-refused _ a.numbers.now a.times.now c.in_err-check_times.field-0.0
+    (pairs-unfit a.r a.v.now c.in_err-check_times.field-0.0 (sym c.check_times.ensures ∙ c.in_err-check_times.was)))

@@ -10,7 +10,7 @@ use Rattle.packet_size.proofs.packet_size.Goals as goal
 pub size_behind-requires : goal.size_behind-requires
 size_behind-requires c = let list = c.args.list.now in
     let f = header-fits list (sym c.is_header_first.ensures ∙ c.if-is_header_first.true) in
-    let p : c.wide16-start.result ≡ asked_padding (job_at list) = c.wide16-start.ensures ∙ c.u16_from_le_bytes.ensures
+    let p : c.from-start.result ≡ asked_padding (job_at list) = c.from-start.ensures ∙ c.u16_from_le_bytes.ensures
     ∙ ap (λ (s : List ℕ). le16 s 4) c.body_at.ensures.result_value in
     (omega (arith, c.next_at.ensures), omega (arith, p, f))
 
@@ -18,8 +18,8 @@ pub returns-then-is_header_first : goal.returns-then-is_header_first
 returns-then-is_header_first c = let a = c.args in
     rw c.size_behind.ensures
     (header-good a.layout a.list.now (sym c.is_header_first.ensures ∙ c.if-is_header_first.true)
-    c.wide16-start.result c.next_at.result
-    (c.wide16-start.ensures ∙ c.u16_from_le_bytes.ensures ∙ ap (λ (s : List ℕ). le16 s 4) c.body_at.ensures.result_value)
+    c.from-start.result c.next_at.result
+    (c.from-start.ensures ∙ c.u16_from_le_bytes.ensures ∙ ap (λ (s : List ℕ). le16 s 4) c.body_at.ensures.result_value)
     c.next_at.ensures)
 
 pub returns : goal.returns

@@ -30,13 +30,13 @@ returns-then-st-eq-WORD c =
 
 pub put-requires : goal.put-requires
 put-requires c =
-    let k = length-lone c.args.st c.if-st-eq-WORD.false _ (sym c.lone.ensures ∙ c.in-One.is) in
+    let k = length-lone c.args.st c.if-st-eq-WORD.false _ (sym c.lone.ensures ∙ c.in-Some.is) in
     omega (arith, k, c.requires)
 
-pub returns-in-One : goal.returns-in-One
-returns-in-One c =
-    lone-laid c.args.st c.if-st-eq-WORD.false _ (sym c.lone.ensures ∙ c.in-One.is) c.put.ensures
+pub returns-in-Some : goal.returns-in-Some
+returns-in-Some c =
+    lone-laid c.args.st c.if-st-eq-WORD.false _ (sym c.lone.ensures ∙ c.in-Some.is) c.put.ensures
 
-pub returns-in-Nothing : goal.returns-in-Nothing
-returns-in-Nothing c =
-    nothing-laid c.args.st c.if-st-eq-WORD.false (sym c.lone.ensures ∙ c.in-Nothing.is)
+pub returns-in-None : goal.returns-in-None
+returns-in-None c =
+    nothing-laid c.args.st c.if-st-eq-WORD.false (sym c.lone.ensures ∙ c.in-None.is)

@@ -1,23 +1,19 @@
 -- `print::copied` meets its contract: a text for which there is room.
-use mathlib.Core.Path.{◌≡◌}
-use native.Mathlib.Numerals.{add-one}
-use native.Mathlib.Omega.{arith}
-use lib.ListN.{drop}
-use lib.Seq.{drop-cons}
-use Rattle.laws.proofs.Filling.{start, put, within, ended}
-use Rattle.print.proofs.ListLaws.{drop_all}
+use Rattle.std.proofs.Common.{ℕ, ◌+◌, ◌-◌, ◌≤◌, ◌≡◌, List, ◌++◌, length, take, drop, refl, sym, ◌∙◌, append_assoc, arith}
+use Rattle.std.proofs.lemmas.List.{drop-drop}
+use Rattle.std.proofs.lemmas.List.Edits.{sets, sets-eq}
 use Rattle.print.proofs.copied.Goals as goal
 
-pub loop-i-init : goal.loop-i-init
-loop-i-init c = (omega arith, start c.requires)
-
-pub bounds-buf-to : goal.bounds-buf-to
-bounds-buf-to c = within (drop-cons c.args.t.now c.loop-i.i 0 c.loop-i-test.true) c.loop-i.invariant.1
-
-pub loop-i-preserved : goal.loop-i-preserved
-loop-i-preserved c = let h = c.loop-i-test.true in
-    let e : drop c.loop-i.i c.args.t.now ≡ _ = drop-cons c.args.t.now c.loop-i.i 0 h in
-    (omega arith, rw add-one (put e c.loop-i.invariant.1))
+-- a text in place of a part of a list that is as long
+in_place : (l t : List ℕ) (at : ℕ) → at + length t ≤ length l
+    → take at l ++ (t ++ drop (length t) (drop at l)) ≡ sets l at t
+in_place l t at h =
+    rw drop-drop (sym (append_assoc (take at l) t (drop (at + length t) l)) ∙ sym (sets-eq t l at h))
 
 pub returns : goal.returns
-returns c = ended (drop_all _ _ c.loop-i-test.false) c.loop-i.invariant.1
+returns c =
+    let n : c.args.at + length c.args.t.now - c.args.at ≡ length c.args.t.now = omega arith in
+    record {
+      stored = rw (n, c.copy_from_slice.ensures.after) (in_place c.args.buf.now c.args.t.now c.args.at c.requires);
+      past = refl;
+    }

@@ -1,23 +1,19 @@
 -- `print::list16` meets its contract: the first n of a list of 16-bit numbers, a space before each.
-use mathlib.Core.Path.{ap}
-use native.Mathlib.Omega.{arith}
-use Rattle.print.proofs.AddedLaws.{start, next, done, reads}
-use Rattle.def_text.specs.Numerals.{spaced}
-use Rattle.print.proofs.ListLaws.{list-next, list-end}
+use Rattle.std.proofs.lemmas.Iterator.{YieldsList-from_slice, YieldsList-from_take}
+use Rattle.std.proofs.lemmas.Iterator.Consumers.{YieldsList-at}
+use Rattle.print.proofs.AddedLaws.{start, next, done}
+use Rattle.print.proofs.ListLaws.{rest-next, rest-end, list-next, list-end}
 use Rattle.print.proofs.list16.Goals as goal
 
-pub loop-i-init : goal.loop-i-init
-loop-i-init c = (omega arith, c.lesser-stop.ensures, start)
+pub loop-x-init : goal.loop-x-init
+loop-x-init c = start
 
-pub loop-i-preserved : goal.loop-i-preserved
-loop-i-preserved c = let e = c.loop-i.invariant in
-    let a = c.args in (
-      omega arith,
-      e.1,
-      next (list-next a.n a.list.now c.loop-i.i (omega arith))
-          (reads (ap spaced c.wide16.ensures) c.number-to.ensures) e.2,
-    )
+pub loop-x-preserved : goal.loop-x-preserved
+loop-x-preserved c =
+    let e = YieldsList-at c.into_iter-x-iterator.ensures.into_iter_gives (YieldsList-from_take c.args.n (YieldsList-from_slice c.args.list.now cc) c.take-x-items.ensures.count) in
+    next (list-next c.from.ensures (rest-next e c.loop-x.yielded _ c.loop-x.yielded_by _ _ _ c.in-Some.is c.next.ensures.steps)) c.number-to.ensures c.loop-x.invariant
 
 pub returns : goal.returns
-returns c = let a = c.args in
-    done (list-end a.n a.list.now c.loop-i.i (omega arith)) c.loop-i.invariant.2
+returns c =
+    let e = YieldsList-at c.into_iter-x-iterator.ensures.into_iter_gives (YieldsList-from_take c.args.n (YieldsList-from_slice c.args.list.now cc) c.take-x-items.ensures.count) in
+    done (list-end (rest-end e c.loop-x.yielded _ c.loop-x.yielded_by _ _ c.in-None.is c.next.ensures.steps)) c.loop-x.invariant

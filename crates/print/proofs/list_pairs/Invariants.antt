@@ -1,16 +1,11 @@
 -- `print::list_pairs` meets its contract: the first n of two lists side by side.
-use Prim.Native.Nat.{◌-◌, ◌≤◌, min}
-use mathlib.Core.Path.{◌≡◌}
-use lib.ListN.{length}
+use Rattle.std.proofs.Common.{length, take, drop}
+use Rattle.std.specs.List.{zip}
 use Rattle.print.proofs.AddedLaws.{Adding}
-use Rattle.print.proofs.ListLaws.{two_from}
+use Rattle.print.proofs.ListLaws.{pairs_text}
 use Rattle.print.proofs.list_pairs.Given as goal
 
-abbrev pub invariant-loop-i : goal.invariant-loop-i
-invariant-loop-i l =
-    (l.i ≤ l.stop) × (l.stop ≡ min l.n (min (length l.numbers) (length l.times)))
-    × Adding l.initial.buf l.at (two_from l.n l.numbers l.times 0) l.buf l.to (two_from l.n l.numbers l.times l.i)
-
-abbrev pub decreases-loop-i : goal.decreases-loop-i
-decreases-loop-i l =
-    l.stop - l.i
+abbrev pub invariant-loop-x : goal.invariant-loop-x
+invariant-loop-x l =
+    Adding l.initial.buf l.at (pairs_text (take l.n (zip l.numbers l.times))) l.buf l.to
+    (pairs_text (drop (length l.yielded) (take l.n (zip l.numbers l.times))))

@@ -4,5 +4,4 @@ use Rattle.print.proofs.ListLaws.{pair-spaced}
 use Rattle.print.proofs.pair.Goals as goal
 
 pub returns : goal.returns
-returns c = reads (pair-spaced c.wide16.ensures c.wide32.ensures)
-    (and_then c.number-n.ensures c.number.ensures)
+returns c = reads (pair-spaced c.from.ensures c.from-2.ensures) (and_then c.number-n.ensures c.number.ensures)

@@ -1,12 +1,7 @@
 -- `print::spell` meets its contract: a number's last k digits, from the last one on.
-use Prim.Native.Nat.{◌≤◌}
 use Rattle.print.proofs.DigitLaws.{Spelling}
 use Rattle.print.proofs.spell.Given as goal
 
 abbrev pub invariant-loop-i : goal.invariant-loop-i
 invariant-loop-i l =
-    (l.i ≤ l.k) × Spelling l.initial.buf l.at l.k l.n l.buf l.i l.rest
-
-abbrev pub decreases-loop-i : goal.decreases-loop-i
-decreases-loop-i l =
-    l.i
+    Spelling l.initial.buf l.at l.k l.n l.buf l.i l.rest

@@ -4,5 +4,5 @@ use Rattle.print.proofs.ListLaws.{triple-spaced}
 use Rattle.print.proofs.triple.Goals as goal
 
 pub returns : goal.returns
-returns c = reads (triple-spaced c.wide32.ensures c.wide32-2.ensures c.wide32-3.ensures)
+returns c = reads (triple-spaced c.from.ensures c.from-2.ensures c.from-3.ensures)
     (and_then c.number-n.ensures (and_then c.number-m.ensures c.number.ensures))

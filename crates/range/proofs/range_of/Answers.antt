@@ -14,5 +14,5 @@ found c =
 
 pub returns : goal.returns
 returns c = let f = c.args.f in
-    range-from f c.grid_from-first.result c.above.result (found (goal.at.returns c).After-grid_from-first) (omega arith)
-    (c.above.ensures ∙ ap (λ (n : ℕ). n - (c.grid_from-first.result - f.begin)) c.size_of.ensures)
+    range-from f c.grid_from-first.result c.saturating_sub.result (found (goal.at.returns c).After-grid_from-first) (omega arith)
+    (c.saturating_sub.ensures ∙ ap (λ (n : ℕ). n - (c.grid_from-first.result - f.begin)) c.size_of.ensures)

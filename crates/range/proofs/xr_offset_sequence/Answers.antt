@@ -2,23 +2,17 @@
 use Rattle.std.proofs.Common.{◌≡◌, sym, ◌∙◌}
 use Rattle.range.proofs.SequenceLaws.{offset-passes, offset-fails}
 use Rattle.def_crate.specs.Sequence.{sequence_of, passes}
--- the number that is tested is the definition's
 use Rattle.range.proofs.xr_offset_sequence.Goals as goal
 use Rattle.range.proofs.xr_offset_sequence.Goals.{After-passes}
 
-sum : (c : After-passes) → let a = c.args in
-    c.wrapping_add_u16-s.result ≡ sequence_of a.seq a.start a.thinning
-sum c =
-    rw (← c.doubled.ensures) c.wrapping_add_u16-s.ensures.value
-
+-- the number that is tested is the definition's
 tested : (c : After-passes) → let a = c.args in
     passes a.start a.end (sequence_of a.seq a.start a.thinning) ≡ c.passes.result
-tested c =
-    rw (← sum c) (sym c.passes.ensures)
+tested c = rw (← c.doubled.ensures) (sym c.passes.ensures)
 
 pub returns-then-passes : goal.returns-then-passes
 returns-then-passes c = let a = c.args in
-    rw (sum (goal.at.returns-then-passes c).After-passes) (sym (offset-passes a.seq a.start a.end a.thinning (tested (goal.at.returns-then-passes c).After-passes ∙ c.if-passes.true)))
+    rw c.doubled.ensures (sym (offset-passes a.seq a.start a.end a.thinning (tested (goal.at.returns-then-passes c).After-passes ∙ c.if-passes.true)))
 
 pub returns-else-passes : goal.returns-else-passes
 returns-else-passes c = let a = c.args in

@@ -6,12 +6,12 @@ use Rattle.records.proofs.kind_of.Goals as goal
 
 pub returns-then-t-eq-BLOCK_TYPE : goal.returns-then-t-eq-BLOCK_TYPE
 unfolding kind_of
-returns-then-t-eq-BLOCK_TYPE c = rw (sym c.ranged_of.ensures ∙ c.in-NoRange.is, eq-eqb _ _ c.if-t-eq-BLOCK_TYPE.true)
+returns-then-t-eq-BLOCK_TYPE c = rw (sym c.ranged_of.ensures ∙ c.in-None.is, eq-eqb _ _ c.if-t-eq-BLOCK_TYPE.true)
 
 pub returns-then-t-eq-BLOCK_TYPE-2 : goal.returns-then-t-eq-BLOCK_TYPE-2
 unfolding kind_of
 returns-then-t-eq-BLOCK_TYPE-2 c = rw (
-  sym c.ranged_of.ensures ∙ c.in-NoRange.is,
+  sym c.ranged_of.ensures ∙ c.in-None.is,
   ne_eqb _ _ c.if-t-eq-BLOCK_TYPE.false,
   eq-eqb _ _ c.if-t-eq-BLOCK_TYPE-2.true,
 )
@@ -19,20 +19,20 @@ returns-then-t-eq-BLOCK_TYPE-2 c = rw (
 pub returns-then-t-eq-BLOCK_TYPE-3 : goal.returns-then-t-eq-BLOCK_TYPE-3
 unfolding kind_of
 returns-then-t-eq-BLOCK_TYPE-3 c = rw (
-  sym c.ranged_of.ensures ∙ c.in-NoRange.is,
+  sym c.ranged_of.ensures ∙ c.in-None.is,
   ne_eqb _ _ c.if-t-eq-BLOCK_TYPE.false,
   ne_eqb _ _ c.if-t-eq-BLOCK_TYPE-2.false,
   eq-eqb _ _ c.if-t-eq-BLOCK_TYPE-3.true,
 )
 
-pub returns-in-ARange : goal.returns-in-ARange
+pub returns-in-Some : goal.returns-in-Some
 unfolding kind_of
-returns-in-ARange c = rw (sym c.ranged_of.ensures ∙ c.in-ARange.is)
+returns-in-Some c = rw (sym c.ranged_of.ensures ∙ c.in-Some.is)
 
 pub returns-else-t-eq-BLOCK_TYPE-3 : goal.returns-else-t-eq-BLOCK_TYPE-3
 unfolding kind_of
 returns-else-t-eq-BLOCK_TYPE-3 c = rw (
-  sym c.ranged_of.ensures ∙ c.in-NoRange.is,
+  sym c.ranged_of.ensures ∙ c.in-None.is,
   ne_eqb _ _ c.if-t-eq-BLOCK_TYPE.false,
   ne_eqb _ _ c.if-t-eq-BLOCK_TYPE-2.false,
   ne_eqb _ _ c.if-t-eq-BLOCK_TYPE-3.false,

@@ -6,12 +6,12 @@ use Rattle.records.proofs.ranged_of.Goals as goal
 
 pub returns-then-t-eq-BLOCK_TYPE : goal.returns-then-t-eq-BLOCK_TYPE
 unfolding ranged_of
-returns-then-t-eq-BLOCK_TYPE c = rw (sym c.rle_of.ensures ∙ c.in-NoRle.is, eq-eqb _ _ c.if-t-eq-BLOCK_TYPE.true)
+returns-then-t-eq-BLOCK_TYPE c = rw (sym c.rle_of.ensures ∙ c.in-None.is, eq-eqb _ _ c.if-t-eq-BLOCK_TYPE.true)
 
-pub returns-in-AnRle : goal.returns-in-AnRle
+pub returns-in-Some : goal.returns-in-Some
 unfolding ranged_of
-returns-in-AnRle c = rw (sym c.rle_of.ensures ∙ c.in-AnRle.is)
+returns-in-Some c = rw (sym c.rle_of.ensures ∙ c.in-Some.is)
 
 pub returns-else-t-eq-BLOCK_TYPE : goal.returns-else-t-eq-BLOCK_TYPE
 unfolding ranged_of
-returns-else-t-eq-BLOCK_TYPE c = rw (sym c.rle_of.ensures ∙ c.in-NoRle.is, ne_eqb _ _ c.if-t-eq-BLOCK_TYPE.false)
+returns-else-t-eq-BLOCK_TYPE c = rw (sym c.rle_of.ensures ∙ c.in-None.is, ne_eqb _ _ c.if-t-eq-BLOCK_TYPE.false)

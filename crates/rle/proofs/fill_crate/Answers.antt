@@ -1,12 +1,12 @@
 -- `rle::fill_crate` meets its contract: the words can list none, or there is room for as many as they can list or as
 -- were counted; else it is refused. Assumes nothing.
+use Rattle.std.specs.Prelude.{Ok}
 use Rattle.utils.proofs.PartLaws.{take-cut, length_cut}
 use Rattle.rle.proofs.CrateLaws.{length-crate}
 use Rattle.laws.proofs.Answering.{listed, full}
 use Rattle.def_crate.specs.Crate.{crate_numbers_from}
 use Rattle.def_wire.specs.Bytes.{words16}
-use Rattle.def_refusals.specs.Answers.{shown, Listed}
-use Rattle.def_refusals.specs.declared.Answer.{Answer}
+use Rattle.def_refusals.specs.Answers.{Listed, Or}
 use Rattle.rle.specs.Most.{most_of}
 use lib.ListN.{length, take}
 use mathlib.Core.List.{List, [], ◌∷◌}
@@ -39,8 +39,8 @@ most : (f : After-lesser-size) → length (whole f) ≤ most_of (words16 (read f
 most f = let a = f.args in length-crate a.end a.thinning a.begin _ (omega arith)
 
 -- they are those that the contract names
-asked : (f : After-lesser-size) {out : List ℕ} {r : Answer} {out' : List ℕ} → Listed (shown (whole f)) out r out'
-    → Listed (shown (numbers f (take 262144 f.args.bytes.now))) out r out'
+asked : (f : After-lesser-size) {out : List ℕ} {r : Or ℕ} {out' : List ℕ} → Listed (Ok (whole f)) out r out'
+    → Listed (Ok (numbers f (take 262144 f.args.bytes.now))) out r out'
 asked f l = let b = f.args.bytes.now in rw (← take-cut b 262144 f.lesser-size.result f.lesser-size.ensures) l
 
 -- a list of none
@@ -70,14 +70,14 @@ pub returns-then-most-eq0 : goal.returns-then-most-eq0
 returns-then-most-eq0 c = let f = (goal.at.returns-then-most-eq0 c).After-lesser-size in
     let e : length (whole f) ≡ 0 = omega (arith, c.if-most-eq0.true, c.at_most-most.ensures, most f) in
     let none = empty (whole f) e in
-    asked f (listed (shown (whole f)) _ (whole f) _ _ refl (omega (arith, e)) (sym e, rw none))
+    asked f (listed (Ok (whole f)) _ (whole f) _ _ refl (omega (arith, e)) (sym e, rw none))
 
 pub tally_crate-need-requires : goal.tally_crate-need-requires
 tally_crate-need-requires c = short (goal.at.tally_crate-need-requires c).After-lesser-size
 
 pub returns-then-out-need : goal.returns-then-out-need
 returns-then-out-need c = let f = (goal.at.returns-then-out-need c).After-lesser-size in
-    asked f (full (shown (whole f)) _ (whole f) _ refl c.tally_crate-need.ensures c.if-out-need.true)
+    asked f (full (Ok (whole f)) _ (whole f) _ refl c.tally_crate-need.ensures c.if-out-need.true)
 
 pub list_crate-requires : goal.list_crate-requires
 list_crate-requires c = room (goal.at.list_crate-requires c).Joined-out-most
@@ -85,4 +85,4 @@ list_crate-requires c = room (goal.at.list_crate-requires c).Joined-out-most
 pub returns : goal.returns
 returns c = let f = (goal.at.returns c).After-lesser-size in
     asked f
-    (listed (shown (whole f)) _ (whole f) _ _ refl (room (goal.at.returns c).Joined-out-most) c.list_crate.ensures)
+    (listed (Ok (whole f)) _ (whole f) _ _ refl (room (goal.at.returns c).Joined-out-most) c.list_crate.ensures)

@@ -1,11 +1,11 @@
 -- `rle_standard::tally` meets its contract: what is counted and what is still to be listed make up the whole, for
 -- every range with as many positions inside; and a run of no length is among the words gone through, or behind them.
 -- Assumes nothing.
-use Prim.Native.Nat.{ℕ, ◌-◌, ◌≤◌}
+use Prim.Native.Nat.{ℕ, ◌*◌, ◌≤◌}
 use mathlib.Core.Path.{◌≡◌}
 use mathlib.Core.Bool.{Bool}
 use mathlib.Core.List.{List}
-use lib.ListN.{length, drop}
+use lib.ListN.{drop}
 use Rattle.laws.proofs.Filling.{Counting}
 use Rattle.def_wire.specs.Bytes.{words16}
 use Rattle.def_wire.specs.Block.{lost_run}
@@ -24,10 +24,6 @@ Counts g bytes left at n = (left ≤ inside_count g) × Counting (numbers_of g (
 abbrev pub Looked : List ℕ → ℕ → Bool → Type 0
 Looked bytes at lost = Seen lost_run (words16 bytes) (words16 (drop at bytes)) lost
 
-abbrev pub invariant-loop-at : goal.invariant-loop-at
-invariant-loop-at l =
-    (l.at ≤ length l.bytes) × ((g : Range) → l.initial.left ≡ inside_count g → Counts g l.bytes l.left l.at l.n) × Looked l.bytes l.at l.lost
-
-abbrev pub decreases-loop-at : goal.decreases-loop-at
-decreases-loop-at l =
-    length l.bytes - l.at
+abbrev pub invariant-loop-i : goal.invariant-loop-i
+invariant-loop-i l =
+    ((g : Range) → l.initial.left ≡ inside_count g → Counts g l.bytes l.left (2 * l.i) l.n) × Looked l.bytes (2 * l.i) l.lost

@@ -1,21 +1,24 @@
--- `rle_words::list::list_words` meets its contract: the loop fills from the front. Assumes nothing.
-use native.Mathlib.Omega.{arith}
-use Rattle.laws.proofs.Filling.{start, within, put, done}
+-- `rle_words::list_words` meets its contract: the loop fills from the front. Assumes nothing.
+use Rattle.std.proofs.Common.{◌≡◌, ◌+◌, ◌*◌, ℕ, List, [], get_or, sym, ap, ◌∙◌, w16, arith}
+use Rattle.std.specs.Int.{from_be_bytes}
+use Rattle.laws.proofs.Filling.{within, put, done}
+use Rattle.utils.proofs.BytesLaws.{length-pair_up}
+use Rattle.utils.proofs.PairsLaws.{be16-pair}
 use Rattle.rle_words.proofs.Turn.{words-cons, words-end}
 use Rattle.rle_words.proofs.list_words.Goals as goal
 
-pub loop-at-init : goal.loop-at-init
-loop-at-init c = (omega arith, omega arith, start (omega arith))
-
 pub bounds-out-n : goal.bounds-out-n
-bounds-out-n c = let a = c.args in
-    within (words-cons a.bytes.now c.loop-at.at c.loop-at-test.true) c.loop-at.invariant.2
+bounds-out-n c = within (words-cons c.args.bytes.now (2 * c.loop-n.n) (omega arith)) c.loop-n.invariant
 
-pub loop-at-preserved : goal.loop-at-preserved
-loop-at-preserved c = let a = c.args in
-    let e = words-cons a.bytes.now c.loop-at.at c.loop-at-test.true in
-    (omega arith, omega arith, rw c.pair.ensures (put e c.loop-at.invariant.2))
+pub loop-n-preserved : goal.loop-n-preserved
+loop-n-preserved c = let s = c.args.bytes.now in
+    let i = c.loop-n.n in
+    let e : 2 * (i + 1) ≡ 2 * i + 2 = omega arith in
+    let x = c.from_be_bytes.ensures
+    ∙ ap (λ (x : List (List ℕ)). from_be_bytes w16 (get_or x i [])) c.as_chunks.ensures.front
+    ∙ be16-pair _ s i (omega arith) in
+    rw (e, x) (put (words-cons s (2 * i) (omega arith)) c.loop-n.invariant)
 
 pub returns : goal.returns
-returns c = let a = c.args in
-    done (words-end a.bytes.now c.loop-at.at c.loop-at-test.false) c.loop-at.invariant.2
+returns c = let s = c.args.bytes.now in
+    (c.as_chunks.ensures.front_len ∙ sym (length-pair_up 256 s), (done (words-end s (2 * c.loop-n.n) (omega arith)) c.loop-n.invariant).1)

@@ -1,5 +1,6 @@
 -- `stats::summary_from` meets its contract: each number by its own flag.
 use Rattle.def_wire.specs.Summary.{summary_from}
+use Rattle.stats.proofs.ShownLaws.{count-if, jitter-if}
 use Rattle.stats.proofs.summary_from.Goals as goal
 
 pub returns : goal.returns
@@ -7,10 +8,12 @@ unfolding summary_from
 returns c =
     rw (
       c.hops_by.ensures,
-      c.jitter_if.ensures,
+      c.then_some-3.ensures,
       c.is_set-3.ensures,
-      c.count_if-2.ensures,
+      c.then_some-2.ensures,
       c.is_set-2.ensures,
-      c.count_if.ensures,
+      c.then_some.ensures,
       c.is_set.ensures,
+      count-if,
+      jitter-if,
     )

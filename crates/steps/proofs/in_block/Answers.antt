@@ -7,7 +7,7 @@ pub returns-in-Spans : goal.returns-in-Spans
 unfolding in_block
 returns-in-Spans c = rw (
   c.opened.ensures,
-  kind-is c.kind_of.ensures c.first_byte.ensures c.in-AKind.is c.in-Spans.is,
+  kind-is c.kind_of.ensures c.first_byte.ensures c.in-Some.is c.in-Spans.is,
   c.above-left.ensures,
   c.length_of.ensures.value,
   c.nothing.ensures,
@@ -17,7 +17,7 @@ pub returns-in-Clock : goal.returns-in-Clock
 unfolding in_block
 returns-in-Clock c = rw (
   c.opened-in-Clock.ensures,
-  kind-is c.kind_of.ensures c.first_byte.ensures c.in-AKind.is c.in-Clock.is,
+  kind-is c.kind_of.ensures c.first_byte.ensures c.in-Some.is c.in-Clock.is,
   c.above-left.ensures,
   c.length_of.ensures.value,
   c.nothing.ensures,
@@ -27,7 +27,7 @@ pub returns-in-Echoes : goal.returns-in-Echoes
 unfolding in_block
 returns-in-Echoes c = rw (
   c.opened-in-Echoes.ensures,
-  kind-is c.kind_of.ensures c.first_byte.ensures c.in-AKind.is c.in-Echoes.is,
+  kind-is c.kind_of.ensures c.first_byte.ensures c.in-Some.is c.in-Echoes.is,
   c.above-left.ensures,
   c.length_of.ensures.value,
   c.nothing.ensures,
@@ -37,17 +37,17 @@ pub returns-in-Statistics : goal.returns-in-Statistics
 unfolding in_block
 returns-in-Statistics c = rw (
   c.opened-in-Statistics.ensures,
-  kind-is c.kind_of.ensures c.first_byte.ensures c.in-AKind.is c.in-Statistics.is,
+  kind-is c.kind_of.ensures c.first_byte.ensures c.in-Some.is c.in-Statistics.is,
   c.above-left.ensures,
   c.length_of.ensures.value,
   c.nothing.ensures,
 )
 
-pub returns-in-NoKind : goal.returns-in-NoKind
+pub returns-in-None : goal.returns-in-None
 unfolding in_block
-returns-in-NoKind c = rw (
-  c.opened-in-NoKind.ensures,
-  kind-none c.kind_of.ensures c.first_byte.ensures c.in-NoKind.is,
+returns-in-None c = rw (
+  c.opened-in-None.ensures,
+  kind-none c.kind_of.ensures c.first_byte.ensures c.in-None.is,
   c.above-left.ensures,
   c.length_of.ensures.value,
   c.nothing.ensures,

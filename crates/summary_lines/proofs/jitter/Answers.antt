@@ -3,12 +3,12 @@ use Rattle.print.proofs.AddedLaws.{and_then}
 use Rattle.def_dump.specs.Summaries.{jitter_text}
 use Rattle.summary_lines.proofs.jitter.Goals as goal
 
-pub returns-in-Jitter : goal.returns-in-Jitter
+pub returns-in-Some : goal.returns-in-Some
 unfolding jitter_text
-returns-in-Jitter c = rw c.in-Jitter.is
+returns-in-Some c = rw c.in-Some.is
     (and_then (and_then (and_then (and_then c.text-n.ensures c.number-a.ensures) c.number-b.ensures)
     c.number-c.ensures) c.number.ensures)
 
-pub returns-in-NoJitter : goal.returns-in-NoJitter
+pub returns-in-None : goal.returns-in-None
 unfolding jitter_text
-returns-in-NoJitter c = rw c.in-NoJitter.is c.text.ensures
+returns-in-None c = rw c.in-None.is c.text.ensures

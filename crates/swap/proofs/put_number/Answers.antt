@@ -5,7 +5,7 @@ use lib.ListN.{length-set}
 use lib.Seq.{sets}
 use Prim.Native.Nat.{◌+◌, suc}
 use mathlib.Core.Path.{◌≡◌, sym, ap}
-use Rattle.swap.proofs.SwapLaws.{four_bytes}
+use Rattle.little_endian.proofs.SwapLaws.{four_bytes}
 use Rattle.swap.proofs.put_number.Goals as goal
 
 pub returns : goal.returns
@@ -13,7 +13,7 @@ returns c = let a = c.args in
     let e2 : a.n + 2 ≡ suc (suc a.n) = omega arith in
     let e3 : a.n + 3 ≡ suc (suc (suc a.n)) = omega arith in
     let e4 : a.k + 3 ≡ a.k + 2 + 1 = omega arith in
-    rw (e4, add-one a.n, e2, e3)
+    rw (add-one a.n, e2, e3)
     (ap (sets a.out.now a.n)
     (sym (four_bytes a.body.now (λ i. (c.type_inv.body i).fits) a.k)))
 

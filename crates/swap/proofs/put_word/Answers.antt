@@ -4,7 +4,7 @@ use native.Mathlib.Omega.{arith}
 use lib.ListN.{length-set}
 use lib.Seq.{sets}
 use mathlib.Core.Path.{sym, ap}
-use Rattle.swap.proofs.SwapLaws.{two_bytes}
+use Rattle.little_endian.proofs.SwapLaws.{two_bytes}
 use Rattle.swap.proofs.put_word.Goals as goal
 
 pub returns : goal.returns

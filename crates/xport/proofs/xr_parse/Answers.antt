@@ -5,15 +5,15 @@ use Rattle.flat.specs.Flat.{reading_of}
 use mathlib.Core.Path.{sym, ap, ◌∙◌}
 use Rattle.xport.proofs.xr_parse.Goals as goal
 
-pub returns-in-Packet : goal.returns-in-Packet
-returns-in-Packet c = let a = c.args in
-    ap flat_read (sym c.in-Packet.is ∙ c.parse.ensures
+pub returns-in-Ok : goal.returns-in-Ok
+returns-in-Ok c = let a = c.args in
+    ap flat_read (sym c.in-Ok.is ∙ c.parse.ensures
     ∙ ap (λ g. parsed_of g a.packet.now) c.reading.ensures)
     ∙ parsed-flat (reading_of a.r) a.packet.now
 
-pub returns-in-Unread : goal.returns-in-Unread
-returns-in-Unread c = let a = c.args in
+pub returns-in-Err : goal.returns-in-Err
+returns-in-Err c = let a = c.args in
     c.refusal.ensures
-    ∙ ap flat_read (sym c.in-Unread.is ∙ c.parse.ensures
+    ∙ ap flat_read (sym c.in-Err.is ∙ c.parse.ensures
     ∙ ap (λ g. parsed_of g a.packet.now) c.reading.ensures)
     ∙ parsed-flat (reading_of a.r) a.packet.now

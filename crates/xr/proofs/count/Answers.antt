@@ -1,4 +1,5 @@
 -- `xr::count` meets its contract.
+use Rattle.laws.proofs.Passing.{handed-on}
 use mathlib.Core.Path.{sym, ◌∙◌}
 use Rattle.xr.proofs.HeaderLaws.{header-fine}
 use Rattle.xr.proofs.WalkLaws.{count-walked, count-refused}
@@ -6,15 +7,15 @@ use Rattle.xr.proofs.count.Goals as goal
 
 pub walk-w-requires : goal.walk-w-requires
 walk-w-requires c = let a = c.args in
-    let f = header-fine a.r a.s.now c.in-Done.stop
-    (sym c.header.ensures ∙ c.in-Done.is) in
+    let f = header-fine a.r a.s.now c.in_ok-stop.stop
+    (sym c.header.ensures ∙ c.in_ok-stop.was) in
     (f.within, f.whole, f.least)
 
-pub returns-in-Done : goal.returns-in-Done
-returns-in-Done c = let a = c.args in
-    c.walk-w.ensures.counted ∙ count-walked a.r a.s.now c.in-Done.stop
-    (sym c.header.ensures ∙ c.in-Done.is)
+pub returns : goal.returns
+returns c = let a = c.args in
+    c.walk-w.ensures.counted ∙ count-walked a.r a.s.now c.in_ok-stop.stop
+    (sym c.header.ensures ∙ c.in_ok-stop.was)
 
-pub returns-in-Refused : goal.returns-in-Refused
-returns-in-Refused c = let a = c.args in
-    count-refused a.r a.s.now c.in-Refused.x (sym c.header.ensures ∙ c.in-Refused.is)
+pub returns-in_err-stop : goal.returns-in_err-stop
+returns-in_err-stop c = let a = c.args in
+    rw (handed-on _ _ c.from_residual.ensures) (count-refused a.r a.s.now c.in_err-stop.field-0.0 (sym c.header.ensures ∙ c.in_err-stop.was))

@@ -1,9 +1,9 @@
 -- `xr::header` meets its contract: each way out cites a law of `header_of`, with the tests that led there.
+use Rattle.std.specs.Prelude.{Ok}
 use Prim.Native.Nat.{◌≤◌}
 use mathlib.Core.Path.{◌≡◌, sym, ◌∙◌, ap}
 use native.Mathlib.Omega.{arith}
 use lib.ListN.{length}
-use Rattle.def_refusals.specs.declared.Answer.TheVariants.{Done}
 use Rattle.def_wire.specs.Packet.{least_of, announced_of, padding_of, stop_of, header_of, is_bad_padding}
 use mathlib.Core.Bool.{false}
 use Rattle.xr.proofs.HeaderLaws.{least-ge, header-short, header-version, header-type, header-length}
@@ -29,10 +29,10 @@ says c =
 -- padding that is not bad
 good : (c : Else-is_bad_padding) → is_bad_padding (padding_of c.args.s.now) (length c.args.s.now) ≡ false
 good c =
-    rw c.wide8-n.ensures.0 at
+    rw c.from-n.ensures at
     (sym c.is_bad_padding.ensures ∙ c.if-is_bad_padding.false)
 
-padded : (c : Else-is_bad_padding) → Done (stop_of c.args.r c.args.s.now) ≡ header_of c.args.r c.args.s.now
+padded : (c : Else-is_bad_padding) → Ok (stop_of c.args.r c.args.s.now) ≡ header_of c.args.r c.args.s.now
 padded c =
     let long : least_of c.args.r ≤ length c.args.s.now = rw c.least-fewest.ensures at c.if-s-fewest.false in
     let says : announced_of c.args.s.now ≡ length c.args.s.now = sym c.length_at-says.ensures.value ∙ c.if-says-s.false in
@@ -64,7 +64,7 @@ returns-then-says-s c = let k = c.length_at-says.ensures.value in
     c.if-kind.false (λ q. c.if-says-s.true (k ∙ q)))
 
 pub returns-then-first-ne1 : goal.returns-then-first-ne1
-returns-then-first-ne1 c = ap Done (sym (stop-plain c.args.r c.args.s.now c.if-first-ne1.true))
+returns-then-first-ne1 c = ap Ok (sym (stop-plain c.args.r c.args.s.now c.if-first-ne1.true))
     ∙ header-plain c.args.r c.args.s.now (long (goal.at.returns-then-first-ne1 c).Else-s-fewest) c.if-first-ne2.false
     c.if-kind.false (says (goal.at.returns-then-first-ne1 c).Else-says-s) c.if-first-ne1.true
 
@@ -76,22 +76,22 @@ is_bad_padding-requires c = omega (
 )
 
 pub returns-then-is_bad_padding : goal.returns-then-is_bad_padding
-returns-then-is_bad_padding c = rw c.wide8-n.ensures.0
+returns-then-is_bad_padding c = rw c.from-n.ensures
     (header-padding c.args.r c.args.s.now (long (goal.at.returns-then-is_bad_padding c).Else-s-fewest) c.if-first-ne2.false
-    c.if-kind.false (says (goal.at.returns-then-is_bad_padding c).Else-says-s) c.if-first-ne1.false (rw c.wide8-n.ensures.0 at
+    c.if-kind.false (says (goal.at.returns-then-is_bad_padding c).Else-says-s) c.if-first-ne1.false (rw c.from-n.ensures at
     (sym c.is_bad_padding.ensures ∙ c.if-is_bad_padding.true)))
 
 pub overflow_sub-result : goal.overflow_sub-result
 overflow_sub-result c = omega (
   arith,
-  c.wide8-n.ensures.0,
+  c.from-n.ensures,
   (good-padding (padding_of c.args.s.now) (length c.args.s.now)
       (good (goal.at.overflow_sub-result c).Else-is_bad_padding)).1,
 )
 
 pub returns-in-Standard : goal.returns-in-Standard
-returns-in-Standard c = ap Done (stop-standard c.args.r c.args.s.now c.wide8-n.result c.in-Standard.is
-    c.wide8-n.ensures.0 c.if-first-ne1.false) ∙ padded (goal.at.returns-in-Standard c).Else-is_bad_padding
+returns-in-Standard c = ap Ok (stop-standard c.args.r c.args.s.now c.from-n.result c.in-Standard.is
+    c.from-n.ensures c.if-first-ne1.false) ∙ padded (goal.at.returns-in-Standard c).Else-is_bad_padding
 
 pub returns-in-Crate : goal.returns-in-Crate
-returns-in-Crate c = ap Done (stop-crate c.args.r c.args.s.now c.in-Crate.is) ∙ padded (goal.at.returns-in-Crate c).Else-is_bad_padding
+returns-in-Crate c = ap Ok (stop-crate c.args.r c.args.s.now c.in-Crate.is) ∙ padded (goal.at.returns-in-Crate c).Else-is_bad_padding

@@ -1,8 +1,7 @@
 -- `rle::list::tally_crate` meets its contract: what is counted and what is to be listed make up the whole. Assumes
 -- nothing.
-use Prim.Native.Nat.{◌-◌, ◌≤◌, ◌<◌}
+use Prim.Native.Nat.{◌*◌, ◌<◌}
 use mathlib.Core.Path.{◌≡◌}
-use lib.ListN.{length}
 use Rattle.laws.proofs.Filling.{Counting}
 use Rattle.def_wire.specs.Bytes.{words16}
 use Rattle.def_crate.specs.Crate.{crate_numbers_from}
@@ -10,11 +9,8 @@ use Rattle.range.specs.Failing.{first_fail}
 use Rattle.rle.specs.Runs.{here}
 use Rattle.rle.proofs.list.tally_crate.Given as goal
 
-abbrev pub invariant-loop-at : goal.invariant-loop-at
-invariant-loop-at l =
-    (l.at ≤ length l.bytes) × (l.start < 65536) × (l.first ≡ first_fail l.start l.end l.thinning)
-    × Counting (crate_numbers_from l.end l.thinning l.begin (words16 l.bytes)) (here l.end l.thinning l.bytes l.at l.start) l.n
-
-abbrev pub decreases-loop-at : goal.decreases-loop-at
-decreases-loop-at l =
-    length l.bytes - l.at
+abbrev pub invariant-loop-word : goal.invariant-loop-word
+invariant-loop-word l =
+    (l.start < 65536) × (l.first ≡ first_fail l.start l.end l.thinning)
+    × Counting (crate_numbers_from l.end l.thinning l.begin (words16 l.bytes))
+    (here l.end l.thinning l.bytes (2 * l.word-index) l.start) l.n

@@ -1,0 +1,8 @@
+-- What a `?` hands on: the refusal itself. And what two answers have in common where they are equal.
+use Rattle.std.specs.Prelude.{◌≡◌, Result, Ok, Err, Option, Some, IsErr, IsErrAnd, ℕ}
+use mathlib.Core.Path.{ap}
+
+-- the error that `?` met is the one that is returned
+pub handed-on : {T E : Type 0} (r : Result T E) (x : E) → IsErr r × IsErrAnd r (λ y. y ≡ x) → r ≡ Err x
+handed-on (Ok t) x h = absurd h.1
+handed-on (Err y) x h = ap Err h.1

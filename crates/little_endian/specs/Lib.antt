@@ -1,0 +1,2 @@
+-- Pieces (a list of bytes that is taken piece by piece).
+pub mod Pieces

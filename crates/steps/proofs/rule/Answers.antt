@@ -1,8 +1,0 @@
--- `steps::rule` meets its contract: a length rule.
-use Rattle.steps.proofs.rule.Goals as goal
-
-pub returns-then-ok : goal.returns-then-ok
-returns-then-ok c = rw c.if-ok.true
-
-pub returns : goal.returns
-returns c = rw c.if-ok.false
