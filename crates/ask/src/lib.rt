@@ -124,7 +124,7 @@ pub fn written(layout: Layout, list: &[u8], room: usize, buf: &mut [u8], at: usi
         (line_in (min room most_written) packet_line (packet_of layout list.now)) buf.new result }
 {
     let mut out = [0u8; MOST];
-    let n = utils::lesser(room, MOST);
+    let n = room.min(MOST);
     written_into(layout, list, &mut out[0..n], buf, at)
 }
 
@@ -165,6 +165,6 @@ pub fn made(chunk: Chunk, room: usize, buf: &mut [u8], at: usize) -> usize
         (line_in (min room most_made) word_told (word_bytes chunk)) buf.new result }
 {
     let mut out = [0u8; 8];
-    let n = utils::lesser(room, 8);
+    let n = room.min(8);
     made_into(chunk, &mut out[0..n], buf, at)
 }

@@ -90,7 +90,7 @@ pub fn numbers(
         (line_in (min room most_listed) numbers_line (numbers_by r s.now k t)) buf.new result }
 {
     let mut list = [0u16; MOST];
-    let n = utils::lesser(room, MOST);
+    let n = room.min(MOST);
     numbers_into(r, s, k, t, &mut list[0..n], buf, at)
 }
 
@@ -117,7 +117,7 @@ pub fn words(r: Reading, s: &[u8], k: usize, t: u8, room: usize, buf: &mut [u8],
         (line_in (min room most_listed) words_line (words_by r s.now k t)) buf.new result }
 {
     let mut list = [0u16; MOST];
-    let n = utils::lesser(room, MOST);
+    let n = room.min(MOST);
     words_into(r, s, k, t, &mut list[0..n], buf, at)
 }
 
@@ -136,7 +136,7 @@ pub fn made(ms: &[u8], room: usize, buf: &mut [u8], at: usize) -> usize
         (line_in (min room most_listed) words_line (marks_asked ms.now)) buf.new result }
 {
     let mut list = [0u16; MOST];
-    let n = utils::lesser(room, MOST);
+    let n = room.min(MOST);
     made_into(ms, &mut list[0..n], buf, at)
 }
 
@@ -183,7 +183,7 @@ pub fn pairs(r: Reading, s: &[u8], k: usize, room: usize, buf: &mut [u8], at: us
 {
     let mut ns = [0u16; MOST];
     let mut ts = [0u32; MOST];
-    let n = utils::lesser(room, MOST);
+    let n = room.min(MOST);
     pairs_into(r, s, k, &mut ns[0..n], &mut ts[0..n], buf, at)
 }
 
@@ -248,7 +248,7 @@ pub fn entries(r: Reading, s: &[u8], k: usize, room: usize, buf: &mut [u8], at: 
     let mut a = [0u32; MOST];
     let mut b = [0u32; MOST];
     let mut c = [0u32; MOST];
-    let n = utils::lesser(room, MOST);
+    let n = room.min(MOST);
     entries_into(r, s, k, &mut a[0..n], &mut b[0..n], &mut c[0..n], buf, at)
 }
 
@@ -302,6 +302,6 @@ pub fn stretch(
         (stretch_in s.now k t c budget (min room most_listed)) buf.new result }
 {
     let mut list = [0u16; MOST];
-    let n = utils::lesser(room, MOST);
+    let n = room.min(MOST);
     stretch_into(s, k, t, c, budget, &mut list[0..n], buf, at)
 }

@@ -113,7 +113,7 @@ pub fn calls(p: &[u8], buf: &mut [u8], at: usize) -> usize
     let mut numbers = [0u16; MOST];
     let mut values = [0u64; MOST];
     let mut sums = [0u64; 49152];
-    let room = utils::lesser(little_endian::u32_from_le_bytes(p, 0) as usize, MOST);
+    let room = (little_endian::u32_from_le_bytes(p, 0) as usize).min(MOST);
     let n = little_endian::u16_from_le_bytes(p, 4) as usize;
     calls_into(
         p,

@@ -126,7 +126,7 @@ pub fn check_echoes(r: Reading, v: &[u8]) -> Result<(), Refusal>
     }
     match r {
         Reading::Standard => {
-            let over = utils::above(v.len(), 4) % 12;
+            let over = v.len().saturating_sub(4) % 12;
             rule(over == 0, v.len() + (12 - over) % 12, v.len())
         }
         Reading::Crate => {

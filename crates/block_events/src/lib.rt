@@ -41,7 +41,7 @@ fn count_range(g: Ranged, v: &[u8]) -> usize
     let r = range::range_of(block::fields_at(v));
     match g {
         Ranged::Chunks(_) => 1 + rle_standard::count_standard(utils::part(v, 12, v.len()), r),
-        Ranged::Times => 1 + utils::lesser((v.len() - 12) / 4, range::inside_count(r)),
+        Ranged::Times => 1 + ((v.len() - 12) / 4).min(range::inside_count(r)),
     }
 }
 
@@ -181,7 +181,7 @@ fn put_range(
     match g {
         Ranged::Chunks(_) => put_numbers(utils::part(v, 12, v.len()), r, tags, numbers, m),
         Ranged::Times => {
-            let count = utils::lesser((v.len() - 12) / 4, range::inside_count(r));
+            let count = ((v.len() - 12) / 4).min(range::inside_count(r));
             let step = range::doubled(1, f.thinning);
             put_pairs(
                 v,

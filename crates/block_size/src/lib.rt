@@ -62,7 +62,7 @@ fn has_sums(body: &[u8]) -> bool
 pub fn zeros_behind(layout: Layout, body: &[u8]) -> usize
     ensures { result ≡ zeros_behind layout (low16 (drop 10 body.now)) }
 {
-    let words = utils::above(body.len(), 10) / 2;
+    let words = body.len().saturating_sub(10) / 2;
     if words % 2 == 1 {
         return 1;
     }
@@ -88,9 +88,9 @@ pub fn block_size(layout: Layout, kind: u16, body: &[u8]) -> usize
         Some(k) => match k {
             Kind::Spans(g) => match g {
                 Ranged::Chunks(_) => {
-                    12 + utils::above(body.len(), 10) / 2 * 2 + zeros_behind(layout, body) * 2
+                    12 + body.len().saturating_sub(10) / 2 * 2 + zeros_behind(layout, body) * 2
                 }
-                Ranged::Times => 12 + utils::above(body.len(), 10) / 4 * 4,
+                Ranged::Times => 12 + body.len().saturating_sub(10) / 4 * 4,
             },
             Kind::Clock => 12,
             Kind::Echoes => 4 + body.len() / 4 * 4,

@@ -54,8 +54,8 @@ fn moved(w: u16, m: usize, c: Cursor) -> Cursor
     requires { (c.position ≤ circle) × (c.place + m ≤ steps_in w) × (c.word + 1 < 18446744073709551616) }
     ensures { result ≡ moved_in w m c }
 {
-    let passed = utils::lesser(m, chunk::covers(w) as usize);
-    let position = utils::lesser(c.position + passed, 65536);
+    let passed = m.min(chunk::covers(w) as usize);
+    let position = (c.position + passed).min(65536);
     if c.place + m < steps_in(w) {
         return Cursor {
             word: c.word,
@@ -96,10 +96,7 @@ fn go(bytes: &[u8], g: Range, c: Cursor, budget: usize, out: &mut [u16]) -> Stre
         }
         let w = word_at(bytes, i);
         let takes = steps_in(w) - at.place;
-        let room = utils::lesser(
-            utils::lesser(left, takes),
-            utils::above(inside, at.position),
-        );
+        let room = left.min(takes).min(inside.saturating_sub(at.position));
         let first = range::number_at(g, at.position);
         n = ones::put_places(out, n, w, at.place, room, first, step);
         if left < takes {

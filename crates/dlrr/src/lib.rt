@@ -65,7 +65,7 @@ pub fn entries(
 {
     block::check_echoes(r, v)?;
     let n = count(v);
-    let room = utils::lesser(utils::lesser(ssrcs.len(), lasts.len()), delays.len());
+    let room = ssrcs.len().min(lasts.len()).min(delays.len());
     if room < n {
         return Err(Refusal::NoRoom(n, room));
     }

@@ -127,12 +127,11 @@ pub fn event_lines(
         (event_lines (events_in tags.now numbers.now values.now sums.now
         count)) buf.new result }
 {
-    let stop = utils::lesser(
-        count,
-        utils::lesser(
-            utils::lesser(utils::lesser(tags.len(), numbers.len()), values.len()),
-            sums.len() / 3,
-        ),
+    let stop = count.min(
+        tags.len()
+            .min(numbers.len())
+            .min(values.len())
+            .min(sums.len() / 3),
     );
     let mut to = at;
     for i in 0..stop {

@@ -24,7 +24,7 @@ pub fn write_header(out: &mut [u8], padding: usize, size: usize, sender: u32) ->
         (first_byte padding ∷ 207 ∷ two ((size - 4) / 4) ++ four sender) out.new result }
 {
     utils::put16(out, 0, utils::pair(first_byte(padding), Xr::PACKET_TYPE));
-    utils::put16(out, 2, (utils::above(size, 4) / 4 % 65536) as u16);
+    utils::put16(out, 2, (size.saturating_sub(4) / 4 % 65536) as u16);
     utils::put32(out, 4, sender);
     8
 }

@@ -20,7 +20,7 @@ fn wide32(x: u32) -> usize
 pub fn is_whole(list: &[u8], at: usize) -> bool
     ensures { result ≡ is_whole (drop at list.now) }
 {
-    let left = utils::above(list.len(), at);
+    let left = list.len().saturating_sub(at);
     if left < 6 {
         return false;
     }
@@ -31,7 +31,7 @@ pub fn is_whole(list: &[u8], at: usize) -> bool
 pub fn kind_at(list: &[u8], at: usize) -> u16
     ensures { result ≡ (job_at (drop at list.now)).kind }
 {
-    little_endian::u16_from_le_bytes(list, utils::lesser(at, list.len()) + 4)
+    little_endian::u16_from_le_bytes(list, at.min(list.len()) + 4)
 }
 
 // The body of the record at a place, that part of the caller's list itself.
@@ -39,7 +39,7 @@ pub fn body_at(list: &[u8], at: usize) -> &[u8]
     ensures result_value { result.now ≡ (job_at (drop at list.now)).body }
     ensures ref_ptr_value { result.ref_ptr ≡ start_from list.entry.ref_ptr list.now (at + 6) }
 {
-    let from = utils::lesser(at, list.len()) + 6;
+    let from = at.min(list.len()) + 6;
     utils::part(
         list,
         from,
@@ -68,9 +68,9 @@ pub fn whole_body(list: &[u8], at: usize) -> &[u8]
 pub fn next_at(list: &[u8], at: usize) -> usize
     ensures { result ≡ next_job list.now at }
 {
-    let from = utils::lesser(at, list.len());
+    let from = at.min(list.len());
     let n = 6 + wide32(little_endian::u32_from_le_bytes(list, at));
-    from + utils::lesser(n, list.len() - from)
+    from + n.min(list.len() - from)
 }
 
 // Whether a record is a header: kind 0, six bytes, a padding of 0 or a multiple of 4 up to 252.

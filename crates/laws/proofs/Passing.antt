@@ -1,5 +1,5 @@
--- What a `?` hands on: the refusal itself. And what two answers have in common where they are equal.
-use Rattle.std.specs.Prelude.{◌≡◌, Result, Ok, Err, Option, Some, IsErr, IsErrAnd, ℕ}
+-- What a `?` hands on: the refusal itself.
+use Rattle.std.specs.Prelude.{◌≡◌, Result, Ok, Err, IsErr, IsErrAnd}
 use mathlib.Core.Path.{ap}
 
 -- the error that `?` met is the one that is returned

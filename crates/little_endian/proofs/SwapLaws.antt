@@ -1,7 +1,6 @@
 -- The laws of little-endian numbers and of their big-endian bytes, which the crate swap stores. Assumes nothing.
 --     swapped16-*, ..         a list of bytes number by number, eight bytes at once, and at its end
 --     two_bytes, four-words   a number's bytes, and the words of a 32-bit number
---     turned2-*, ..           eight bytes turned round
 use Prim.Native.Nat.{ℕ, ◌+◌, ◌/◌, ◌%◌, ◌≤◌, ◌<◌}
 use mathlib.Core.Path.{◌≡◌, refl, sym, ap, ap₂, ◌∙◌}
 use mathlib.Core.List.{List, [], ◌∷◌, ◌++◌}

@@ -109,17 +109,6 @@ module _ (ms : List ℕ) (at : ℕ) where
         (marks (at + 1)) (marks (at + 2)) (marks (at + 3))
         ∙ sym spread
 
--- four of them at the places that fifteen want are below the bound
-pub fours-below : (ms : List ℕ) (at : ℕ) {a b c d : ℕ} → Marks ms → a ≡ be32 ms at → b ≡ be32 ms (at + 4)
-    → c ≡ be32 ms (at + 8) → d ≡ be32 ms (at + 11)
-    → (a ≤ 16843009) × (b ≤ 16843009) × (c ≤ 16843009) × (d ≤ 16843009)
-fours-below ms at marks p q r s = (
-  rw p (four_below ms at marks),
-  rw q (four_below ms (at + 4) marks),
-  rw r (four_below ms (at + 8) marks),
-  rw s (four_below ms (at + 11) marks),
-)
-
 -- k bits of the marks from a place on, and those behind them
 bits-behind : (ms : List ℕ) (at j k to : ℕ) → to ≡ at + j
     → bits_of (j + k) (drop at ms) ≡ bits_of j (drop at ms) * 2 ^ k + bits_of k (drop to ms)

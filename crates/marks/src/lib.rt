@@ -189,7 +189,7 @@ fn run_length(marks: &[u8], at: usize) -> usize
     ensures { result ≡ run_length (drop at marks.now) }
 {
     let m = marks[at];
-    let stop = at + utils::lesser(LONGEST, marks.len() - at);
+    let stop = at + LONGEST.min(marks.len() - at);
     let i = past_fours(marks, at + 15, stop, m);
     past_singles(marks, i, stop, m) - at
 }
@@ -266,7 +266,7 @@ fn make(marks: &[u8], out: &mut [u16]) -> Result<usize, Refusal>
     requires { Marks marks.now × (length marks.now ≤ 65536) }
     ensures { Listed (Ok (words_of marks.now)) out.old result out.new }
 {
-    if 15 * utils::lesser(out.len(), MAX_WORDS) < marks.len() {
+    if 15 * out.len().min(MAX_WORDS) < marks.len() {
         let need = count_words(marks);
         if out.len() < need {
             return Err(Refusal::NoRoom(need, out.len()));

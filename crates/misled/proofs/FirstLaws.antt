@@ -10,23 +10,6 @@ use Rattle.chunk.proofs.ChunkLaws.{covers-run, covers-vector, value-run, value-v
 use Rattle.misled.specs.Known.{FirstOne}
 
 module _ (w place : ℕ) (h : place < covers_of w) where
-  pub first-zeros : w < 16384 → FirstOne w place w
-  first-zeros l =
-      let c = covers-run w (omega arith) in
-      record {
-        from = omega arith;
-        zeros = λ i a b d. value-run w i (omega arith) ∙ (let e : w / 16384 % 2 ≡ 0 = omega arith in e);
-        one = λ k. absurd (omega arith);
-      }
-
-  pub first-ones : 16384 ≤ w → w < 32768 → FirstOne w place place
-  first-ones a b =
-      record {
-        from = omega arith;
-        zeros = λ i c d e. absurd (omega arith);
-        one = λ k. value-run w place b ∙ (let e : w / 16384 % 2 ≡ 1 = omega arith in e);
-      }
-
   module _ (v : 32768 ≤ w) where
     -- the places from the asked one on, in the highest bits of 32
     abbrev bits : ℕ

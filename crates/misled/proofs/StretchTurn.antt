@@ -77,21 +77,3 @@ module _ (body : List ℕ) (left p at : ℕ) where
         inside = omega (arith, z);
         circle = omega (arith, z);
       }
-
-  module _ (n : ℕ) (h : at + 2 * n ≤ length body) where
-    pub over-inside : (c : ℕ) → c ≡ covered_in body at n → c ≤ left
-        → Over body left p at (left - c) ((p + c % 65536) % 65536) (at + 2 * n)
-    over-inside c e k =
-        record {
-          words = n;
-          index = refl;
-          within = h;
-          clear = inl (omega (arith, e));
-          inside = omega (arith, e);
-          circle = omega (arith, e);
-        }
-
-    pub over-quiet : (next : ℕ) → left ≡ 0 → next ≡ (p + covered_in body at n) % 65536 → QuietIn body at n
-        → Over body left p at left next (at + 2 * n)
-    over-quiet next z e q =
-        record { words = n; index = refl; within = h; clear = inr q; inside = omega (arith, z); circle = e }

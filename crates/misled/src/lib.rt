@@ -113,7 +113,7 @@ fn stretch(body: &[u8], left: usize, p: u16, at: usize) -> Pass
     requires { at ≤ length body.now }
     ensures { Over body.now left p at result.left result.p result.at }
 {
-    let n = utils::lesser(256, (body.len() - at) / 2);
+    let n = 256usize.min((body.len() - at) / 2);
     let to = at + 2 * n;
     if left == 0 {
         let s = outside_in(body, at, n, p);
@@ -128,7 +128,7 @@ fn stretch(body: &[u8], left: usize, p: u16, at: usize) -> Pass
         let c = covered_in(body, at, n);
         if c <= left {
             return Pass {
-                left: utils::above(left, c),
+                left: left.saturating_sub(c),
                 p: std::num::wrapping_add_u16(p, (c % 65536) as u16),
                 at: to,
             };
@@ -180,8 +180,8 @@ fn goes_on(body: &[u8], g: Range, end: u16) -> bool
 fn misled_times(f: Fields, own: usize, all: usize) -> bool
     ensures { result ≡ misled_times f own all }
 {
-    let listed = utils::lesser(range::first_fail(f.begin, f.end, f.thinning), all);
-    listed != utils::lesser(range::inside_count(shared_of(f)), own)
+    let listed = range::first_fail(f.begin, f.end, f.thinning).min(all);
+    listed != range::inside_count(shared_of(f)).min(own)
 }
 
 // Type 5: the crate takes a block of 1, 5, 9, .. entries, and lists all that stands behind them too.

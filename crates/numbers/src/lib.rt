@@ -19,7 +19,7 @@ fn word_bytes(r: Reading, v: &[u8]) -> &[u8]
         Reading::Standard => utils::part(v, 12, v.len()),
         Reading::Crate => {
             let l = xr::block_length(xr::header_data(v));
-            utils::part(v, 12, utils::above(l, 14))
+            utils::part(v, 12, l.saturating_sub(14))
         }
     }
 }

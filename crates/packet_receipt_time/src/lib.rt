@@ -76,8 +76,8 @@ pub fn pairs(r: Reading, v: &[u8], numbers: &mut [u16], times: &mut [u32]) -> Re
 {
     block::check_times(r, v)?;
     let f = block::fields_at(v);
-    let n = utils::lesser(listable_of(r, f), times_count(v));
-    let room = utils::lesser(numbers.len(), times.len());
+    let n = listable_of(r, f).min(times_count(v));
+    let room = numbers.len().min(times.len());
     if room < n {
         return Err(Refusal::NoRoom(n, room));
     }

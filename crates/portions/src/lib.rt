@@ -23,10 +23,10 @@ pub const MOST_EVENTS: usize = 16384;
 fn room_in(tags: &[u64], numbers: &[u16], values: &[u64], sums: &[u64]) -> usize
     ensures { result ≡ room_in tags.now numbers.now values.now sums.now }
 {
-    utils::lesser(
-        utils::lesser(utils::lesser(tags.len(), numbers.len()), values.len()),
-        sums.len() / 3,
-    )
+    tags.len()
+        .min(numbers.len())
+        .min(values.len())
+        .min(sums.len() / 3)
 }
 
 // Stores the events of a complete item, the packet's end not among them, and answers the index past them.
@@ -179,7 +179,7 @@ fn count_whole(s: Portions, x: &[u8], at: usize, l: usize) -> Turn
     requires whole_at { WholeAt s x.now at l }
     ensures { TurnCounted s x.now at result }
 {
-    let next = steps::next_block(s.known, utils::above(s.behind, l - 4));
+    let next = steps::next_block(s.known, s.behind.saturating_sub(l - 4));
     let shown = block_events::count_block(utils::part(x, at, l));
     Turn {
         state: next,
@@ -193,7 +193,7 @@ fn count_some(s: Portions, x: &[u8], at: usize) -> Turn
     requires { (s.missing ≡ 0 → ⊥) × (at < length x.now) }
     ensures { TurnCounted s x.now at result }
 {
-    let m = utils::lesser(s.missing, x.len() - at);
+    let m = s.missing.min(x.len() - at);
     let r = steps::settle(steps::hold(s, x, at, m));
     let next = r.state;
     Turn {
@@ -252,7 +252,7 @@ fn put_whole(
     ensures { TurnStored s x.now at n tags.old numbers.old values.old
         sums.old result tags.new numbers.new values.new sums.new }
 {
-    let next = steps::next_block(s.known, utils::above(s.behind, l - 4));
+    let next = steps::next_block(s.known, s.behind.saturating_sub(l - 4));
     let past = block_events::put_block(utils::part(x, at, l), tags, numbers, values, sums, n);
     let all = put_end(next, tags, numbers, values, sums, past);
     Turn {
@@ -277,7 +277,7 @@ fn put_some(
     ensures { TurnStored s x.now at n tags.old numbers.old values.old
         sums.old result tags.new numbers.new values.new sums.new }
 {
-    let m = utils::lesser(s.missing, x.len() - at);
+    let m = s.missing.min(x.len() - at);
     let r = put_settled(steps::hold(s, x, at, m), tags, numbers, values, sums, n);
     let next = r.state;
     Turn {
@@ -367,13 +367,12 @@ fn taken_in(st: Portions) -> usize
 {
     let k = st.known;
     if st.item == states::HEAD {
-        return utils::above(4, st.missing);
+        return 4usize.saturating_sub(st.missing);
     }
     let all = k.announced as usize;
-    utils::above(
-        utils::above(utils::above(all, st.behind), st.rest),
-        st.missing,
-    )
+    all.saturating_sub(st.behind)
+        .saturating_sub(st.rest)
+        .saturating_sub(st.missing)
 }
 
 // 19: more bytes than the header announces.

@@ -21,7 +21,7 @@ const LONGEST: usize = 262144;
 pub fn count_crate(bytes: &[u8], end: u16, thinning: u8, begin: u16) -> usize
     ensures { result ≡ length (crate_numbers_from end thinning begin (words16 (take longest bytes.now))) }
 {
-    let size = utils::lesser(LONGEST, bytes.len());
+    let size = LONGEST.min(bytes.len());
     list::tally_crate(&bytes[..size], end, thinning, begin)
 }
 
@@ -36,7 +36,7 @@ pub fn fill_crate(
     ensures { Listed (Ok (crate_numbers_from end thinning begin
         (words16 (take longest bytes.now)))) out.old result out.new }
 {
-    let size = utils::lesser(LONGEST, bytes.len());
+    let size = LONGEST.min(bytes.len());
     let part = &bytes[..size];
     let most = list::at_most(part);
     if most == 0 {

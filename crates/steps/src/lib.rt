@@ -150,7 +150,7 @@ fn rule_of(t: u8, length: u32) -> Result<(), Refusal>
             Kind::Spans(_) => rule(12 <= l, 12, l),
             Kind::Clock => rule(l == 12, 12, l),
             Kind::Echoes => {
-                let past = utils::above(l, 4) % 12;
+                let past = l.saturating_sub(4) % 12;
                 rule(past == 0, l + (12 - past) % 12, l)
             }
             Kind::Statistics => rule(l == 40, 40, l),
@@ -226,7 +226,7 @@ pub fn next_block(k: Known, behind: usize) -> Portions
         held: 0,
         missing: 4,
         rest: 0,
-        behind: utils::above(behind, 4),
+        behind: behind.saturating_sub(4),
         known: bare,
         item: states::BLOCK,
     }
@@ -242,7 +242,7 @@ fn opened(k: Known, rest: usize, behind: usize, item: u8, size: usize) -> Portio
     Portions {
         held: 0,
         missing: size,
-        rest: utils::above(rest, size),
+        rest: rest.saturating_sub(size),
         behind,
         known: k,
         item,
@@ -262,7 +262,7 @@ fn in_block(announced: u32, behind: usize, w: u32) -> Portions
         kept: nothing(),
     };
     let rest = length_of(w) as usize - 4;
-    let left = utils::above(behind, rest);
+    let left = behind.saturating_sub(rest);
     match records::kind_of(first_byte(w)) {
         Some(kind) => match kind {
             Kind::Spans(_) => opened(k, rest, left, states::FIELDS, 8),
@@ -310,7 +310,7 @@ fn moved(k: Known, n: u16) -> Known
         block: k.block,
         whose: 0,
         next: range::moved_by(n, thinning_of(k), k.next),
-        inside: utils::above(k.inside, n as usize),
+        inside: k.inside.saturating_sub(n as usize),
         kept: nothing(),
     }
 }
@@ -402,7 +402,7 @@ fn in_packet(w: u32) -> Portions
         held: 0,
         missing: 4,
         rest: 0,
-        behind: utils::above(announced as usize, 8),
+        behind: (announced as usize).saturating_sub(8),
         known: Known {
             announced,
             block: 0,
@@ -598,7 +598,7 @@ pub fn hold(st: Portions, x: &[u8], from: usize, m: usize) -> Portions
     let k = st.known;
     Portions {
         held,
-        missing: utils::above(st.missing, m),
+        missing: st.missing.saturating_sub(m),
         rest: st.rest,
         behind: st.behind,
         known: k,

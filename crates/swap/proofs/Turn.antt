@@ -38,6 +38,3 @@ module _ {f : List ℕ → List ℕ} {body : List ℕ} {from : ℕ} {l₀ : List
               (record { stored = w; past = ap (λ (x : ℕ). n + x) (sym (p.size k)) })
               g.state;
         }
-
-  pub going-ended : f (drop k body) ≡ [] → Wrote l₀ at (f (drop from body)) l n
-  going-ended e = ended e g.state

@@ -1,7 +1,6 @@
 -- A part of a list that is cut to what there is. Assumes nothing.
 use Rattle.std.proofs.Common.{◌≡◌, ℕ, ◌+◌, ◌-◌, ◌<◌, ◌≤◌, min, leb, List, length, take, drop, sym, ap, ◌∙◌, add_comm, arith, length-drop, drop_of_length-le, length-take, take_all, leb-false, leb-true}
 use Rattle.laws.proofs.Tests.{either}
-use Rattle.def_wire.specs.Packet.{start_from}
 
 module _ (l : List ℕ) (n m : ℕ) (cut : m ≡ min n (length l)) where
   -- past the end nothing is left
@@ -22,12 +21,3 @@ module _ (l : List ℕ) (n m : ℕ) (cut : m ≡ min n (length l)) where
 
   pub length_cut : m ≡ length (take m l)
   length_cut = omega (arith, length-take m l)
-
-module _ (s : List ℕ) (at from : ℕ) (cut : from ≡ min at (length s)) where
-  pub part_cut : (n to : ℕ) → to ≡ min n (length s - from) → take (from + to - from) (drop from s) ≡ take n (drop at s)
-  part_cut n to e =
-      let k : from + to - from ≡ to = omega arith in
-      rw k (take-cut (drop from s) n to (rw (length-drop from s) e) ∙ ap (take n) (drop-cut s at from cut))
-
-  pub part-start : (p : ℕ × ℕ) → ◌≡◌ {A = ℕ × ℕ} (p.0, from + p.1) (start_from p s at)
-  part-start p = rw (cut, add_comm (min at (length s)) p.1)

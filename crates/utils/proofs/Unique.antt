@@ -15,8 +15,6 @@ use Rattle.utils.proofs.put16.Reads as put16
 use Rattle.utils.proofs.put32.Reads as put32
 use Rattle.utils.proofs.put64.Reads as put64
 use Rattle.utils.proofs.pad_to_4bytes.Reads as pad_to_4bytes
-use Rattle.utils.proofs.lesser.Reads as lesser
-use Rattle.utils.proofs.above.Reads as above
 use Rattle.utils.proofs.part.Reads as part
 
 pub pair-unique : (κs : Lfts 0) → Fixes (pair.Post κs) (λ r s. r)
@@ -54,12 +52,6 @@ put64-unique-out κs a r₁ r₂ s₁ s₂ p q = p ∙ sym q
 
 pub pad_to_4bytes-unique : (κs : Lfts 0) → Fixes (pad_to_4bytes.Post κs) (λ r s. r)
 pad_to_4bytes-unique κs a r₁ r₂ s₁ s₂ p q = p ∙ sym q
-
-pub lesser-unique : (κs : Lfts 0) → Fixes (lesser.Post κs) (λ r s. r)
-lesser-unique κs a r₁ r₂ s₁ s₂ p q = p ∙ sym q
-
-pub above-unique : (κs : Lfts 0) → Fixes (above.Post κs) (λ r s. r)
-above-unique κs a r₁ r₂ s₁ s₂ p q = p ∙ sym q
 
 pub part-unique : (κs : Lfts 1) → Fixes (part.Post κs) (λ r s. r.now)
 part-unique κs a r₁ r₂ s₁ s₂ p q = p.0 ∙ sym q.0

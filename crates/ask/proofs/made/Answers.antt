@@ -10,4 +10,4 @@ pub returns : goal.returns
 returns c = let a = c.args in
     in-room (λ (n : ℕ). line_in n word_told (word_bytes a.chunk))
     c.made_into.ensures
-    (part_room _ _ _ _ refl c.lesser-n.ensures)
+    (part_room _ _ _ _ refl c.min-n.ensures)

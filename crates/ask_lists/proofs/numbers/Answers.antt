@@ -11,4 +11,4 @@ pub returns : goal.returns
 returns c = let a = c.args in
     in-room (λ (n : ℕ). line_in n numbers_line (numbers_by a.r a.s.now a.k a.t))
     c.numbers_into.ensures
-    (part_room _ _ _ _ refl c.lesser-n.ensures)
+    (part_room _ _ _ _ refl c.min-n.ensures)

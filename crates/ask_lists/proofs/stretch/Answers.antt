@@ -9,4 +9,4 @@ pub returns : goal.returns
 returns c = let a = c.args in
     in-room (λ (n : ℕ). stretch_in a.s.now a.k a.t a.c a.budget n)
     c.stretch_into.ensures
-    (part_room _ _ _ _ refl c.lesser-n.ensures)
+    (part_room _ _ _ _ refl c.min-n.ensures)

@@ -22,7 +22,7 @@ returns-then-v-lt16 c = let a = c.args in
 pub returns-in-Standard : goal.returns-in-Standard
 returns-in-Standard c = let a = c.args in
     c.rule.ensures
-    ∙ echoes-standard a.r a.v.now (same (goal.at.returns-in-Standard c).Else-t-ne-BLOCK_TYPE) c.above-over.result c.above-over.ensures c.in-Standard.is
+    ∙ echoes-standard a.r a.v.now (same (goal.at.returns-in-Standard c).Else-t-ne-BLOCK_TYPE) c.saturating_sub-over.result c.saturating_sub-over.ensures c.in-Standard.is
 
 pub returns-else-v-lt16 : goal.returns-else-v-lt16
 returns-else-v-lt16 c = let a = c.args in

@@ -31,4 +31,4 @@ returns-in-Times c = let a = c.args in
     let e : c.inside_count.result ≡ inside_count (range_of (fields_at a.v.now)) =
     c.inside_count.ensures ∙ ap inside_count (c.range_of-r.ensures ∙ ap range_of c.fields_at.ensures) in
     count-times a.v.now a.g _ c.in-Times.is c.if-v-lt12.false
-    (c.lesser.ensures ∙ ap (min ((length a.v.now - 12) / 4)) e ∙ sym (length_pairs a.v.now))
+    (c.min.ensures ∙ ap (min ((length a.v.now - 12) / 4)) e ∙ sym (length_pairs a.v.now))

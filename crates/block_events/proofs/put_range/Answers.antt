@@ -16,7 +16,7 @@ use Rattle.block_events.proofs.EventsLaws.{numbers-found, length_pairs, pairs-st
 use Rattle.block_events.proofs.EventsLaws.{count-times}
 use Rattle.block_events.proofs.PutLaws.{ranged-start, ranged-short, ranged-chunks, ranged-times, ranged-length}
 use Rattle.block_events.proofs.put_range.Goals as goal
-use Rattle.block_events.proofs.put_range.Goals.{After-lesser-count, After-part, After-put-m}
+use Rattle.block_events.proofs.put_range.Goals.{After-min-count, After-part, After-put-m}
 
 -- the start was stored
 began : (p : After-put-m) → let a = p.args in
@@ -32,10 +32,10 @@ numbers c = numbers-found c.args.v.now c.fields_at-f.ensures c.range_of-r.ensure
 -- ---- the pairs
 
 -- as many are stored as there are
-counted : (c : After-lesser-count) → let v = c.args.v.now in
-    c.lesser-count.result ≡ min ((length v - 12) / 4) (inside_count (range_of (fields_at v)))
+counted : (c : After-min-count) → let v = c.args.v.now in
+    c.min-count.result ≡ min ((length v - 12) / 4) (inside_count (range_of (fields_at v)))
 counted c =
-    c.lesser-count.ensures
+    c.min-count.ensures
     ∙ ap (min ((length c.args.v.now - 12) / 4))
     (c.inside_count.ensures ∙ ap inside_count (c.range_of-r.ensures ∙ ap range_of c.fields_at-f.ensures))
 
@@ -64,7 +64,7 @@ pub put_pairs-requires : goal.put_pairs-requires
 put_pairs-requires c =
     let v = c.args.v.now in
     let b = began (goal.at.put_pairs-requires c).After-put-m in
-    let m = counted (goal.at.put_pairs-requires c).After-lesser-count in
+    let m = counted (goal.at.put_pairs-requires c).After-min-count in
     let k = count-times v c.args.g _ c.in-Times.is c.if-v-lt12.false (m ∙ sym (length_pairs v)) in
     record {
       count_in_bounds = omega (arith, m, length-words32 (drop 12 v), length-drop 12 v);
@@ -79,6 +79,6 @@ returns-in-Times c =
     let step = step-found Standard c.fields_at-f.result v c.fields_at-f.ensures c.doubled-step.result
     c.doubled-step.ensures in
     ranged-times v c.if-v-lt12.false (began (goal.at.returns-in-Times c).After-put-m) c.in-Times.is
-    (pairs-stepped v c.number_at.result c.doubled-step.result c.lesser-count.result first step
-    (counted (goal.at.returns-in-Times c).After-lesser-count))
+    (pairs-stepped v c.number_at.result c.doubled-step.result c.min-count.result first step
+    (counted (goal.at.returns-in-Times c).After-min-count))
     c.put_pairs.ensures

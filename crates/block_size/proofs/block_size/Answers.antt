@@ -20,7 +20,7 @@ pub returns-in-Chunks : goal.returns-in-Chunks
 returns-in-Chunks c = let a = c.args in
     omega (
       arith,
-      c.above.ensures,
+      c.saturating_sub.ensures,
       c.zeros_behind.ensures,
       as-words a.layout (job_of a.kind a.body.now) c.in-Chunks.field-0,
       length-block a.layout (job_of a.kind a.body.now)
@@ -31,7 +31,7 @@ pub returns-in-Times : goal.returns-in-Times
 returns-in-Times c = let a = c.args in
     omega (
       arith,
-      c.above-in-Times.ensures,
+      c.saturating_sub-in-Times.ensures,
       as-times a.layout (job_of a.kind a.body.now),
       length-block a.layout (job_of a.kind a.body.now)
           (kind-spans c.kind_of.ensures c.in-Some.is c.in-Spans.is c.in-Times.is),

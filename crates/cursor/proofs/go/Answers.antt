@@ -22,7 +22,7 @@ use mathlib.Core.List.{List, ◌++◌}
 use mathlib.Core.Path.{◌≡◌, ap, ◌∙◌}
 use Prim.Native.Nat.{ℕ, ◌+◌, ◌-◌, ◌^◌, min, ◌≤◌, ◌<◌}
 use Rattle.cursor.proofs.go.Goals as goal
-use Rattle.cursor.proofs.go.Goals.{At-loop-left, Else-words-i, After-steps_in, After-lesser}
+use Rattle.cursor.proofs.go.Goals.{At-loop-left, Else-words-i, After-steps_in, After-min}
 use Rattle.cursor.proofs.go.Goals.{After-number_at-first}
 
 -- the words, the word at hand, and its steps from the place on
@@ -55,13 +55,13 @@ placed c = legal-place (words16 c.args.bytes.now) c.loop-left.at c.loop-left.inv
 steps : (c : After-steps_in) → c.steps_in.result ≡ steps_in (word_at (words16 c.args.bytes.now) c.loop-left.at)
 steps c = c.steps_in.ensures ∙ ap steps_in c.word_at-w.ensures
 
-counted : (c : After-lesser) → let k = c.loop-left in
-    c.lesser.result ≡ min k.left (steps_in (word_at (words16 c.args.bytes.now) k.at) - k.at.place)
+counted : (c : After-min) → let k = c.loop-left in
+    c.min.result ≡ min k.left (steps_in (word_at (words16 c.args.bytes.now) k.at) - k.at.place)
 counted c =
     let k = c.loop-left in
     let steps : c.steps_in.result ≡ steps_in (word_at (words16 c.args.bytes.now) k.at) =
     c.steps_in.ensures ∙ ap steps_in c.word_at-w.ensures in
-    c.lesser.ensures ∙ ap (λ (n : ℕ). min k.left (n - k.at.place)) steps
+    c.min.ensures ∙ ap (λ (n : ℕ). min k.left (n - k.at.place)) steps
 
 -- m steps that there are: where they lead, and what they list
 module _ (l : At-loop-left) (m : ℕ) (has : l.loop-left.at.word < length (words_of l)) (low : m ≤ l.loop-left.left)
@@ -77,9 +77,9 @@ module _ (l : At-loop-left) (m : ℕ) (has : l.loop-left.at.word < length (words
   turn = going-listed l.loop-left.invariant.0 has m low ends l.args.g l.requires.g_bound
 
 -- the numbers that the call stores are those: the step is computed once, and the places are those that are inside
-asked : (c : After-number_at-first) (k : ℕ) → let l = c.loop-left in let g = c.args.g in c.lesser.result ≡ k
+asked : (c : After-number_at-first) (k : ℕ) → let l = c.loop-left in let g = c.args.g in c.min.result ≡ k
     → along c.doubled-step.result c.number_at-first.result
-    (places_in c.word_at-w.result l.at.place c.lesser-room.result)
+    (places_in c.word_at-w.result l.at.place c.min-room.result)
     ≡ along (step_of g.thinning) (number_of g l.at.position)
     (places_in (word_at (words16 c.args.bytes.now) l.at) l.at.place (min k (inside_count g - l.at.position)))
 asked c k e =
@@ -87,9 +87,9 @@ asked c k e =
     let g = c.args.g in
     let stepped : c.doubled-step.result ≡ step_of g.thinning =
     c.doubled-step.ensures ∙ (rw (one-mul (2 ^ g.thinning))) in
-    let inner : c.lesser-room.result ≡ min c.lesser.result (inside_count g - l.at.position) =
-    c.lesser-room.ensures ∙ ap (min c.lesser.result)
-    (c.above.ensures ∙ ap (λ (n : ℕ). n - l.at.position) c.inside_count-inside.ensures) in
+    let inner : c.min-room.result ≡ min c.min.result (inside_count g - l.at.position) =
+    c.min-room.ensures ∙ ap (min c.min.result)
+    (c.saturating_sub.ensures ∙ ap (λ (n : ℕ). n - l.at.position) c.inside_count-inside.ensures) in
     along-same l.at.place stepped c.number_at-first.ensures c.word_at-w.ensures
     (inner ∙ ap (λ (n : ℕ). min n (inside_count g - l.at.position)) e)
 
@@ -137,7 +137,7 @@ returns-then-left-takes c = let at = goal.at.returns-then-left-takes c in
     let m = c.loop-left.left in
     let has = has at.Else-words-i in
     let f : m ≤ takes l = omega (arith, c.if-left-takes.true, steps at.After-steps_in) in
-    let k : c.lesser.result ≡ m = omega (arith, counted at.After-lesser, f) in
+    let k : c.min.result ≡ m = omega (arith, counted at.After-min, f) in
     let n : c.moved.result ≡ next l m = c.moved.ensures
     ∙ ap (λ (v : ℕ). moved_in v m c.loop-left.at) c.word_at-w.ensures in
     let s = turn l m has (omega arith) f in
@@ -164,7 +164,7 @@ loop-left-preserved c = let at = goal.at.loop-left-preserved c in
     let has = has at.Else-words-i in
     let a : ℕ = c.steps_in.result - c.loop-left.at.place in
     let q : a ≡ takes l = ap (λ (n : ℕ). n - c.loop-left.at.place) (steps at.After-steps_in) in
-    let k : c.lesser.result ≡ a = omega (arith, counted at.After-lesser, c.if-left-takes.false, q) in
+    let k : c.min.result ≡ a = omega (arith, counted at.After-min, c.if-left-takes.false, q) in
     let n : c.moved-at.result ≡ next l a = c.moved-at.ensures
     ∙ ap (λ (v : ℕ). moved_in v a c.loop-left.at) c.word_at-w.ensures in
     let s = turn l a has c.if-left-takes.false (omega arith) in

@@ -14,8 +14,8 @@ returns-then-c-m c = let a = c.args in
     let h : a.c.place + a.m < steps_in a.w = rw (← c.steps_in.ensures) c.if-c-m.true in
     rw (
       moved-inner a.w a.c.word a.c.place a.c.position a.m h,
-      c.lesser-position.ensures,
-      c.lesser-passed.ensures,
+      c.min-position.ensures,
+      c.min-passed.ensures,
       c.covers.ensures,
     )
 
@@ -24,7 +24,7 @@ returns c = let a = c.args in
     let h : steps_in a.w ≤ a.c.place + a.m = rw (← c.steps_in.ensures) c.if-c-m.false in
     rw (
       moved-last a.w a.c.word a.c.place a.c.position a.m h,
-      c.lesser-position.ensures,
-      c.lesser-passed.ensures,
+      c.min-position.ensures,
+      c.min-passed.ensures,
       c.covers.ensures,
     )

@@ -11,15 +11,15 @@ use Rattle.dlrr.proofs.entries.Goals as goal
 pub returns-then-room-n : goal.returns-then-room-n
 returns-then-room-n c = let a = c.args in
     entries-full _ a.ssrcs.now a.lasts.now a.delays.now (entries_of a.v.now) c.count-n.result
-    c.lesser-room.result (entries-fine a.r a.v.now (sym c.check_echoes.ensures ∙ c.in_ok-check_echoes.was))
-    c.count-n.ensures (c.lesser-room.ensures ∙ ap (λ (x : ℕ). min x (length a.delays.now))
-    c.lesser.ensures) c.if-room-n.true
+    c.min-room.result (entries-fine a.r a.v.now (sym c.check_echoes.ensures ∙ c.in_ok-check_echoes.was))
+    c.count-n.ensures (c.min-room.ensures ∙ ap (λ (x : ℕ). min x (length a.delays.now))
+    c.min.ensures) c.if-room-n.true
 
 pub returns : goal.returns
 returns c = let a = c.args in
     entries-listed _ a.ssrcs.now a.lasts.now a.delays.now (entries_of a.v.now) c.count-n.result _ _ _
     (entries-fine a.r a.v.now (sym c.check_echoes.ensures ∙ c.in_ok-check_echoes.was)) c.count-n.ensures
-    (omega (arith, c.if-room-n.false, c.lesser-room.ensures, c.lesser.ensures)) c.store.ensures
+    (omega (arith, c.if-room-n.false, c.min-room.ensures, c.min.ensures)) c.store.ensures
 
 pub returns-in_err-check_echoes : goal.returns-in_err-check_echoes
 returns-in_err-check_echoes c = let a = c.args in

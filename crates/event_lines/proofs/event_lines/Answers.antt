@@ -11,17 +11,17 @@ loop-i-init c = start
 
 pub loop-i-preserved : goal.loop-i-preserved
 loop-i-preserved c = let a = c.args in
-    let e = rw (c.lesser-3.ensures, c.lesser-2.ensures, c.lesser.ensures) at c.lesser-stop.ensures in
+    let e = rw (c.min-3.ensures, c.min-2.ensures, c.min.ensures) at c.min-stop.ensures in
     next (lines_next a.count a.tags.now a.numbers.now a.values.now a.sums.now c.loop-i.i (omega arith))
     (reads (ap event_line c.event_at.ensures) c.event_line-to.ensures) c.loop-i.invariant
 
 pub event_at-requires : goal.event_at-requires
 event_at-requires c = let a = c.args in
-    let e = rw (c.lesser-3.ensures, c.lesser-2.ensures, c.lesser.ensures) at c.lesser-stop.ensures in
+    let e = rw (c.min-3.ensures, c.min-2.ensures, c.min.ensures) at c.min-stop.ensures in
     room_at a.count _ _ a.tags.now a.numbers.now a.values.now a.sums.now e c.loop-i-test.true
 
 pub returns : goal.returns
 returns c = let a = c.args in
-    let e = rw (c.lesser-3.ensures, c.lesser-2.ensures, c.lesser.ensures) at c.lesser-stop.ensures in
+    let e = rw (c.min-3.ensures, c.min-2.ensures, c.min.ensures) at c.min-stop.ensures in
     done (lines_end a.count a.tags.now a.numbers.now a.values.now a.sums.now c.loop-i.i (omega arith))
     c.loop-i.invariant

@@ -5,4 +5,4 @@ use Rattle.jobs.proofs.kind_at.Goals as goal
 
 pub returns : goal.returns
 returns c = let a = c.args in
-    c.u16_from_le_bytes.ensures ∙ le16-cut a.at a.list.now c.lesser.result 4 c.lesser.ensures
+    c.u16_from_le_bytes.ensures ∙ le16-cut a.at a.list.now c.min.result 4 c.min.ensures

@@ -5,5 +5,5 @@ use Rattle.jobs.proofs.next_at.Goals as goal
 
 pub returns : goal.returns
 returns c = let a = c.args in
-    next-cut a.list.now a.at c.lesser-from.result c.lesser-from.ensures c.wide32-n.result c.lesser.result
-    (c.wide32-n.ensures.0 ∙ c.u32_from_le_bytes.ensures) c.lesser.ensures
+    next-cut a.list.now a.at c.min-from.result c.min-from.ensures c.wide32-n.result c.min.result
+    (c.wide32-n.ensures.0 ∙ c.u32_from_le_bytes.ensures) c.min.ensures

@@ -15,8 +15,8 @@ overflow_add-at c = omega (arith, run_room c.args.marks.now c.args.at c.requires
 
 pub past_fours-i-requires : goal.past_fours-i-requires
 past_fours-i-requires c = let r = run_room c.args.marks.now c.args.at c.requires.1 in
-    (c.requires.0, c.requires.0 c.args.at, omega (arith, r, c.lesser.ensures), omega (arith, r, c.lesser.ensures))
+    (c.requires.0, c.requires.0 c.args.at, omega (arith, r, c.min.ensures), omega (arith, r, c.min.ensures))
 
 pub returns : goal.returns
 returns c = run-found-here c.args.marks.now c.args.at c.requires.1 _ c.past_fours-i.result c.past_singles.result
-    (rw c.lesser.ensures) c.past_fours-i.ensures.0 c.past_singles.ensures.0 c.past_singles.ensures.1
+    (rw c.min.ensures) c.past_fours-i.ensures.0 c.past_singles.ensures.0 c.past_singles.ensures.1

@@ -5,9 +5,9 @@ use Rattle.misled.proofs.misled_times.Goals as goal
 pub returns : goal.returns
 unfolding misled_times
 returns c = rw (
-  c.lesser.ensures,
+  c.min.ensures,
   c.inside_count.ensures,
   c.shared_of.ensures,
-  c.lesser-listed.ensures,
+  c.min-listed.ensures,
   c.first_fail.ensures,
 )

@@ -11,6 +11,6 @@ returns-in-Standard c = let a = c.args in
 pub returns-in-Crate : goal.returns-in-Crate
 returns-in-Crate c = let a = c.args in
     c.part-in-Crate.ensures.result_value
-    ∙ bytes-crate a.r a.v.now c.above.result c.block_length-l.result c.in-Crate.is
-    c.above.ensures
+    ∙ bytes-crate a.r a.v.now c.saturating_sub.result c.block_length-l.result c.in-Crate.is
+    c.saturating_sub.ensures
     (length_taken a.v.now _ c.header_data.ensures _ c.block_length-l.ensures.0)

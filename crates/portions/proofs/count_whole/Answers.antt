@@ -14,11 +14,11 @@ shown c = c.count_block-shown.ensures ∙ ap (λ v. length (block_events v)) c.p
 
 pub overflow_add-result : goal.overflow_add-result
 overflow_add-result c =
-    let r = whole_room c.requires.whole_at c.above.ensures c.next_block-next.ensures 0 18446744073709551615
+    let r = whole_room c.requires.whole_at c.saturating_sub.ensures c.next_block-next.ensures 0 18446744073709551615
     (omega (arith, c.requires.x_len_bound)) in
     omega (arith, r, shown (goal.at.overflow_add-result c).After-count_block-shown, c.ends.ensures)
 
 pub returns : goal.returns
 returns c =
-    whole-counted c.requires.whole_at c.above.ensures c.next_block-next.ensures
+    whole-counted c.requires.whole_at c.saturating_sub.ensures c.next_block-next.ensures
     (shown (goal.at.returns c).After-count_block-shown) c.ends.ensures

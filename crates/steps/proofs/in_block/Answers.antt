@@ -8,7 +8,7 @@ unfolding in_block
 returns-in-Spans c = rw (
   c.opened.ensures,
   kind-is c.kind_of.ensures c.first_byte.ensures c.in-Some.is c.in-Spans.is,
-  c.above-left.ensures,
+  c.saturating_sub-left.ensures,
   c.length_of.ensures.value,
   c.nothing.ensures,
 )
@@ -18,7 +18,7 @@ unfolding in_block
 returns-in-Clock c = rw (
   c.opened-in-Clock.ensures,
   kind-is c.kind_of.ensures c.first_byte.ensures c.in-Some.is c.in-Clock.is,
-  c.above-left.ensures,
+  c.saturating_sub-left.ensures,
   c.length_of.ensures.value,
   c.nothing.ensures,
 )
@@ -28,7 +28,7 @@ unfolding in_block
 returns-in-Echoes c = rw (
   c.opened-in-Echoes.ensures,
   kind-is c.kind_of.ensures c.first_byte.ensures c.in-Some.is c.in-Echoes.is,
-  c.above-left.ensures,
+  c.saturating_sub-left.ensures,
   c.length_of.ensures.value,
   c.nothing.ensures,
 )
@@ -38,7 +38,7 @@ unfolding in_block
 returns-in-Statistics c = rw (
   c.opened-in-Statistics.ensures,
   kind-is c.kind_of.ensures c.first_byte.ensures c.in-Some.is c.in-Statistics.is,
-  c.above-left.ensures,
+  c.saturating_sub-left.ensures,
   c.length_of.ensures.value,
   c.nothing.ensures,
 )
@@ -48,7 +48,7 @@ unfolding in_block
 returns-in-None c = rw (
   c.opened-in-None.ensures,
   kind-none c.kind_of.ensures c.first_byte.ensures c.in-None.is,
-  c.above-left.ensures,
+  c.saturating_sub-left.ensures,
   c.length_of.ensures.value,
   c.nothing.ensures,
 )

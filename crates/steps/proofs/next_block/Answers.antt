@@ -9,4 +9,4 @@ returns-then-behind-eq0 c = rw (eq-eqb _ _ c.if-behind-eq0.true, c.nothing.ensur
 
 pub returns : goal.returns
 unfolding next_block
-returns c = rw (ne_eqb _ _ c.if-behind-eq0.false, c.above.ensures, c.nothing.ensures)
+returns c = rw (ne_eqb _ _ c.if-behind-eq0.false, c.saturating_sub.ensures, c.nothing.ensures)

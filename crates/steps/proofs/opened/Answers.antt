@@ -9,4 +9,4 @@ returns-then-rest-eq0 c = rw (c.next_block.ensures, eq-eqb _ _ c.if-rest-eq0.tru
 
 pub returns : goal.returns
 unfolding opened
-returns c = rw (ne_eqb _ _ c.if-rest-eq0.false, c.above.ensures)
+returns c = rw (ne_eqb _ _ c.if-rest-eq0.false, c.saturating_sub.ensures)

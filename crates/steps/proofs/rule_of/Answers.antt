@@ -20,7 +20,7 @@ unfolding standard_rule
 returns-in-Echoes c = rw (
   c.rule-in-Echoes.ensures,
   kind-is c.kind_of.ensures refl c.in-Some.is c.in-Echoes.is,
-  c.above-past.ensures,
+  c.saturating_sub-past.ensures,
 )
 
 pub returns-in-Statistics : goal.returns-in-Statistics
