@@ -35,6 +35,9 @@ fn fields_or(r: Reading, g: Ranged, v: &[u8], buf: &mut [u8], at: usize) -> usiz
     }
 }
 
+// A list of over 64 items. (This and the two like it are not compiled in place: each block's call would else touch the
+// room of their lists, page by page.)
+#[inline(never)]
 fn many_numbers(r: Reading, a: Rle, v: &[u8], buf: &mut [u8], at: usize) -> usize
     ensures { Added buf.old at (list_or numbers_line (numbers_shown r a v.now))
         buf.new result }
@@ -57,6 +60,7 @@ fn numbers_or(r: Reading, a: Rle, v: &[u8], buf: &mut [u8], at: usize) -> usize
     }
 }
 
+#[inline(never)]
 fn many_pairs(r: Reading, v: &[u8], buf: &mut [u8], at: usize) -> usize
     ensures { Added buf.old at (list_or pairs_line (pairs_shown r v.now))
         buf.new result }
@@ -90,6 +94,7 @@ fn time_or(r: Reading, v: &[u8], buf: &mut [u8], at: usize) -> usize
     }
 }
 
+#[inline(never)]
 fn many_entries(r: Reading, v: &[u8], buf: &mut [u8], at: usize) -> usize
     ensures { Added buf.old at (list_or entries_line (entries_shown r v.now))
         buf.new result }

@@ -1,6 +1,7 @@
 -- Bytes stored at an index, as far as there is room, and the bytes of a number's low half. Assumes nothing.
-use Rattle.std.proofs.Common.{◌≡◌, ℕ, suc, ◌+◌, ◌/◌, ◌%◌, ◌≤◌, List, [], ◌∷◌, ◌++◌, length, sym, refl, ap, ◌∙◌, ap₂, arith, length-take, take, drop, take-append-drop, append_assoc, length-drop, drop-drop}
+use Rattle.std.proofs.Common.{◌≡◌, ℕ, suc, ◌+◌, ◌/◌, ◌%◌, ◌<◌, ◌≤◌, List, [], ◌∷◌, ◌++◌, length, get_or, set, sym, refl, ap, ◌∙◌, ap₂, arith, length-take, take, drop, append_assoc, length-drop, drop-drop}
 use lib.Seq.{sets, set_out, sets-eq, length-sets}
+use Rattle.std.proofs.lemmas.List.{take_more, set_past}
 use borrow.Rule.Slice.PartMut.{put_mid, mid_of}
 use Rattle.laws.proofs.Stores.{sets-append}
 use Rattle.def_wire.specs.Bytes.{two, four}
@@ -17,16 +18,19 @@ sets_mid l ys vs i k h n e =
     let m : length vs ≡ k = omega (arith, n, ap length e, length-take k (drop i l), length-drop i l) in
     rw (e, sets-eq vs l i (omega arith), append_assoc, m, drop-drop)
 
--- of what does not fit, what fits is stored
-pub sets_cut : (l ys vs : List ℕ) (i k : ℕ) → length l ≡ i + k → length ys ≡ length (mid_of i k l) → ys ≡ take k vs
-    → put_mid i k l ys ≡ sets l i vs
-sets_cut l ys vs i k h n e =
-    let m : length (take k vs) ≡ k = omega (arith, n, ap length e, length-take k (drop i l), length-drop i l) in
-    let o : length (sets l i (take k vs)) ≡ i + k = omega (arith, length-sets l i (take k vs)) in
-    sets_mid l ys (take k vs) i k (omega arith) n e
-    ∙ sym (sets-out (sets l i (take k vs)) (i + k) (drop k vs) (omega arith))
-    ∙ sets-append (take k vs) (drop k vs) l i (i + k) (omega arith)
-    ∙ ap (sets l i) (take-append-drop k vs)
+-- one byte more
+pub sets_more : (l vs : List ℕ) (i k : ℕ) → k < length vs
+    → set (sets l i (take k vs)) (i + k) (get_or vs k 0) ≡ sets l i (take (k + 1) vs)
+sets_more l vs i k h =
+    sets-append (take k vs) (get_or vs k 0 ∷ []) l i (i + k) (omega (arith, length-take k vs))
+    ∙ ap (sets l i) (sym (take_more vs k 0 h))
+
+-- past the end it is left out
+pub sets_past : (l vs : List ℕ) (i k : ℕ) → k < length vs → length l ≤ i + k
+    → sets l i (take k vs) ≡ sets l i (take (k + 1) vs)
+sets_past l vs i k h p =
+    sym (set_past (sets l i (take k vs)) (i + k) (get_or vs k 0) (omega (arith, length-sets l i (take k vs))))
+    ∙ sets_more l vs i k h
 
 -- a number's bytes are those of its low half
 pub two-low : (x : ℕ) → two (x % 65536) ≡ two x
