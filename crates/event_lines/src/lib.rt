@@ -76,7 +76,8 @@ fn end_line(buf: &mut [u8], at: usize) -> usize
     print::line_end(buf, n)
 }
 
-// An event's line.
+// An event's line. (Compiled in place, so that the event does not go through memory: a list of numbers has thousands.)
+#[inline(always)]
 pub fn event_line(buf: &mut [u8], at: usize, e: Event) -> usize
     ensures { Added buf.old at (event_line e) buf.new result }
 {
